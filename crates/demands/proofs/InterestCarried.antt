@@ -1,16 +1,15 @@
 -- Demand 3 on the interest side: over any number of evenings that follow each other, the volatility that the last call
 -- answers is near the exact one. Each call answers, for the key maturity that we follow, the volatility's rule of what
 -- it was given; so the shares' induction serves.
-use mathlib.Core.Path.{◌≡◌, refl, sym, ◌∙◌, ap}
+use mathlib.Core.Path.{◌≡◌, refl, ◌∙◌, ap}
 use mathlib.Core.Bool.{true}
 use mathlib.Core.List.{List, [], ◌∷◌, map}
-use Prim.Native.Nat.{ℕ, zero, suc, ◌+◌, ◌*◌, ◌/◌, ◌≤◌, ◌<◌}
+use Prim.Native.Nat.{ℕ, zero, suc, ◌+◌, ◌/◌, ◌≤◌, ◌<◌}
 use native.Mathlib.Nat.{div-lt_iff_lt-mul}
 use native.Mathlib.Omega.{arith}
 use lib.IntN.{ℤ}
 use lib.ListN.{length, get_or}
 use borrow.Author.Tests.{leb-true}
-use Rattle.paper.specs.declared.Interest.{Interest}
 use Rattle.paper.specs.declared.Maturity.{Maturity}
 use Rattle.paper.specs.declared.MaturityFigures.{MaturityFigures}
 use Rattle.paper.specs.declared.InterestAnswer.{InterestAnswer}
@@ -23,7 +22,7 @@ use Rattle.paper_interest.specs.Interest.{LentKey, key_at, keys_of, whole_keys, 
 use Rattle.paper_interest.specs.Interest.{maturities_of, in_range, change_of, repo_volatility, maturity_figures, no_figures}
 use Rattle.paper_interest.specs.Interest.{accepted_interest, interest_answer}
 use Rattle.paper_desk.specs.Exact.{NearExact, CarriedOn, begun, once_more}
-use Rattle.paper_interest.specs.InterestExact.{Evening, no_key, key_in, Carried, carried_from, answered_in, carried_after}
+use Rattle.paper_interest.specs.InterestExact.{Evening, no_key, key_in, Carried, answered_in, carried_after}
 use Rattle.paper_interest.specs.InterestExact.{key_given, Follow, start, next, repo_choice, exact_change, exact_repo_square}
 use Rattle.paper.proofs.Logic.{and_left, and_right}
 use Rattle.paper_desk.proofs.CarriedOn.{carried_near}

@@ -1,7 +1,7 @@
 -- What a line asks for on two desks: what is kept of interest lines changes the day of an evaluation alone, and where an
 -- evaluation is accepted it takes the same answers on both.
-use mathlib.Core.Path.{◌≡◌, refl, sym, ap, subst, ◌∙◌}
-use mathlib.Core.Bool.{Bool, true, false, not, ◌&&◌, ◌||◌}
+use mathlib.Core.Path.{◌≡◌, refl, ap}
+use mathlib.Core.Bool.{Bool, true, false, ◌&&◌, ◌||◌}
 use mathlib.Core.List.{List, [], ◌∷◌}
 use Prim.Native.Nat.{ℕ, ◌<◌}
 use native.Mathlib.Omega.{arith}
@@ -11,20 +11,18 @@ use lib.Signed.{le_z}
 use borrow.Author.Tests.{eq-eqb}
 use Rattle.paper.specs.declared.Record.{Record}
 use Rattle.paper.specs.declared.Day.{Day}
-use Rattle.paper.specs.declared.Term.{Term}
 use Rattle.paper.specs.declared.WorkedBand.{WorkedBand}
 use Rattle.paper.specs.declared.RepoLimits.{RepoLimits}
 use Rattle.paper.specs.declared.RepoBand.TheVariants as band
-use Rattle.paper.specs.declared.AskedTerm.{AskedTerm}
 use Rattle.paper.specs.declared.AskedDay.{AskedDay}
 use Rattle.paper_bonds.specs.declared.Bond.{Bond}
-use Rattle.paper.specs.Lists.{pick, all_three}
+use Rattle.paper.specs.Lists.{pick}
 use Rattle.paper.specs.Verdicts.{is_done, NoneApplies, also}
-use Rattle.paper.specs.Numbers.{day_most, behind_most, ahead_most, term_days_most, repo_least, repo_most}
+use Rattle.paper.specs.Numbers.{day_most, behind_most, ahead_most, term_days_most, repo_least}
 use Rattle.paper.specs.Ranges.{unsigned, valid_term, valid_day, valid_day_numbers, term_at}
 use Rattle.paper.specs.Terms.{no_repo, worked_repo, repo_of, term_of, day_of}
 use Rattle.paper.proofs.Logic.{not_true_and_false, and_left, and_right, not_false, each_of_three}
-use Rattle.paper_desk.specs.Desk.{Call, admit, about, evaluate, evaluating, checks_of, step}
+use Rattle.paper_desk.specs.Desk.{Call, evaluate, checks_of}
 use Rattle.paper_desk.proofs.Refusals.{accepted_only}
 use Rattle.text_protocol.specs.declared.Kept.{Kept}
 use Rattle.text_protocol.specs.declared.Pairs.{Pairs}
@@ -32,10 +30,10 @@ use Rattle.text_protocol.specs.Kept.{found_in, none_kept}
 use Rattle.text_protocol.specs.Names.{Name, ID, K0, RRCL0, RRCH0, K1, RRCL1, RRCH1, K2, RRCL2, RRCH2, evaluate_names}
 use Rattle.text_protocol.specs.Names.{bond_names, admit_kind, evaluate_kind, interest_kind, bond_kind, the}
 use Rattle.text_protocol.specs.Line.{Said, Nothing, NoCall, Call as saysCall, meaning}
-use Rattle.text_protocol.specs.Calls.{Deed, nothing, no_call, call, interest, bond, unsigned_of, figures_behind, band_of}
+use Rattle.text_protocol.specs.Calls.{Deed, call, bond, unsigned_of, figures_behind, band_of}
 use Rattle.text_protocol.specs.Calls.{term_of as askedTerm, asked_of, bond_of, desk_call, call_of, deed_of}
-use Rattle.journal_protocol.specs.Lines.{may_change, reads_only, changes}
-use Rattle.prune_protocol.specs.Pruning.{Part, evaluates, ask_part, deed_part, part_of, takes, names_pair}
+use Rattle.journal_protocol.specs.Lines.{may_change, changes}
+use Rattle.prune_protocol.specs.Pruning.{evaluates, ask_part, deed_part, part_of, takes, names_pair}
 use Rattle.prune_protocol.proofs.Answers.{answers_of, Thinned, found_same}
 
 -- ---- the two deeds

@@ -1,7 +1,7 @@
 -- The lines that matter lead to the same desk: line by line, a desk that heard all lines and one that heard only those
 -- that matter are alike but for what later lines write anew, and behind all lines they are the same.
 use mathlib.Core.Path.{◌≡◌, refl, sym, ap, subst, ◌∙◌}
-use mathlib.Core.Bool.{Bool, true, false, not, ◌&&◌, ◌||◌}
+use mathlib.Core.Bool.{Bool, true, false, not, ◌||◌}
 use mathlib.Core.List.{List, [], ◌∷◌, ◌++◌, append-nil}
 use Prim.Native.Nat.{ℕ, zero, suc}
 use native.Mathlib.Omega.{arith}
@@ -13,7 +13,7 @@ use lib.IntN.{ℤ}
 use Rattle.paper.specs.declared.Record.{Record}
 use Rattle.paper.specs.declared.Interest.{Interest}
 use Rattle.paper.specs.Lists.{pick, every}
-use Rattle.paper.specs.Verdicts.{is_done, NoneApplies, also, first_of}
+use Rattle.paper.specs.Verdicts.{is_done, NoneApplies, also}
 use Rattle.paper.proofs.Logic.{not_true_and_false, and_left, and_right, not_true, not_false, pick_true, pick_false}
 use Rattle.paper_desk.specs.Desk.{Ask, evaluating, quoting, moving, reading, opening, receiving, Call, admit, about}
 use Rattle.paper_desk.specs.Desk.{blank, known, Outcome, checks_of, accepted_of, step, fresh}
@@ -21,13 +21,12 @@ use Rattle.paper_desk.specs.Kept.{good, every_slot}
 use Rattle.paper_desk.proofs.Refusals.{verdict_first, accepted_step, accepted_only, accepted_always}
 use Rattle.paper_interest.specs.Interest.{interest_answer}
 use Rattle.demands.proofs.Kept.{good_kept, fresh_good}
-use Rattle.text_bytes.specs.Bytes.{is_line_feed, same, bytes}
+use Rattle.text_bytes.specs.Bytes.{is_line_feed, same}
 use Rattle.text_bytes.specs.Split.{AllFree, piece}
-use Rattle.text_protocol.specs.declared.Pair.{Pair}
 use Rattle.text_protocol.specs.declared.Kept.{Kept}
 use Rattle.text_protocol.specs.Kept.{none_kept, kept_after}
 use Rattle.text_protocol.specs.CallCases.{deed_by}
-use Rattle.text_protocol.specs.Line.{Said, Nothing, meaning}
+use Rattle.text_protocol.specs.Line.{meaning}
 use Rattle.text_protocol.specs.Calls.{Deed, nothing, no_call, call, interest, bond, deed_of}
 use Rattle.text_evening.specs.Evening.{Evening, table_after, kept_by, asked_by, after, start_evening, after_all}
 use Rattle.journal_protocol.specs.Lines.{reads_only, may_change, changes, closed_line, is_kept, kept_of, kept_batches, all_lines}
@@ -37,7 +36,7 @@ use Rattle.journal_protocol.specs.Holds.{SameDesk, no_line, entries_of, Recovere
 use Rattle.journal_protocol.proofs.EntryLaws.{same_is}
 use Rattle.journal_protocol.proofs.JournalLaws.{or_other}
 use Rattle.journal_protocol.proofs.RecoveryLaws.{torn_recovered, cut_is_torn}
-use Rattle.prune_protocol.specs.Pruning.{Part, evaluates, watches, receives, works, other, ask_part, deed_part, part_of}
+use Rattle.prune_protocol.specs.Pruning.{other, ask_part, deed_part, part_of}
 use Rattle.prune_protocol.specs.Pruning.{part_matters, matters, pruned}
 use Rattle.prune_protocol.specs.Holds.{PrunedLead, each_alone, pruned_text, PrunedServes}
 use Rattle.prune_protocol.proofs.Records.{alike_self}

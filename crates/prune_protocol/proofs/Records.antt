@@ -1,7 +1,7 @@
 -- One record: what an evaluation writes anew whatever it was, and what a line that is left out changes of it.
 use mathlib.Core.Path.{◌≡◌, refl, sym, ap, subst, ◌∙◌}
-use mathlib.Core.Bool.{Bool, true, false, not, ◌&&◌, ◌||◌}
-use mathlib.Core.List.{List, [], ◌∷◌}
+use mathlib.Core.Bool.{Bool, true, false, not, ◌||◌}
+use mathlib.Core.List.{List, ◌∷◌}
 use Prim.Native.Nat.{ℕ}
 use lib.Dec.{eqb}
 use lib.IntN.{ℤ}
@@ -15,7 +15,6 @@ use Rattle.paper.specs.declared.NearSeconds.{NearSeconds}
 use Rattle.paper.specs.declared.Session.{Session}
 use Rattle.paper.specs.declared.External.{External}
 use Rattle.paper.specs.declared.Notice.TheVariants.{Bid, Ask as AskNotice, Withdrawal}
-use Rattle.paper.specs.Ranges.{no_external}
 use Rattle.paper.proofs.Logic.{not_true_and_false, not_false, and_left, and_right}
 use Rattle.paper_desk.specs.Desk.{Ask, evaluating, quoting, moving, reading, opening, receiving, rule_of, evaluated}
 use Rattle.paper_desk.specs.Desk.{used_by, price_on, move_on, figures_on, quoted, near_on, moved, evening_opened, received}

@@ -11,7 +11,6 @@ use lib.Seq.{get_or-set_same, get_or-set_other, ext_get_or}
 use borrow.Author.Tests.{eqb-true, eqb-false, ne_eqb, ltb-true, leb-true, lt-ltb}
 use Rattle.paper.specs.declared.Record.{Record}
 use Rattle.paper.specs.declared.Admission.{Admission}
-use Rattle.paper.specs.Lists.{pick}
 use Rattle.paper.specs.Numbers.{id_most}
 use Rattle.paper.specs.Ranges.{within, valid_slots, valid_admission, sound}
 use Rattle.paper.specs.Verdicts.{Check, NoneApplies, also}
@@ -21,12 +20,12 @@ use Rattle.paper_desk.specs.Kept.{good, every_slot}
 use Rattle.paper_desk.proofs.Slots.{found_id, place_other, place_written, known_stands, known_sound}
 use Rattle.paper_desk.proofs.Rules.{rule_holds}
 use Rattle.paper_desk.proofs.Others.{holds_after_step}
-use Rattle.paper.proofs.Logic.{not_true_and_false, and_left, and_right, and_both, not_true, not_false}
+use Rattle.paper.proofs.Logic.{not_true_and_false, and_left, and_both, not_false}
 use Rattle.paper_kept.proofs.Sound.{sound_has_parts, admitted_id_in_range}
 use Rattle.paper_kept.proofs.Good.{good_sound}
 use Rattle.demands.proofs.Kept.{slot_passes}
 use Rattle.journal_protocol.specs.Lines.{reads_only}
-use Rattle.prune_protocol.specs.Pruning.{Part, evaluates, watches, receives, works, other, ask_part, part_of}
+use Rattle.prune_protocol.specs.Pruning.{other, ask_part, part_of}
 use Rattle.prune_protocol.specs.Pruning.{evaluated_in, writes_bid, writes_ask, replaced_in, part_matters}
 use Rattle.prune_protocol.proofs.Records.{Alike, alike_self, alike_same, AlikeFor, Elsewhere, line_passes, KeptAsk, ask_kept}
 use Rattle.prune_protocol.proofs.Records.{ask_left}

@@ -4,13 +4,11 @@
 use Rattle.std.specs.Prelude.{Bool, true, false, not, ◌&&◌, ◌||◌, List, [], ◌∷◌, ℕ, zero, suc, eqb, ℤ}
 use Rattle.paper.specs.declared.Notice.TheVariants.{Bid, Ask as AskNotice, Withdrawal}
 use Rattle.paper.specs.Lists.{pick}
-use Rattle.paper.specs.Ranges.{unsigned}
-use Rattle.paper_desk.specs.Desk.{Ask, evaluating, quoting, moving, reading, opening, receiving, Call, admit, about}
+use Rattle.paper_desk.specs.Desk.{Ask, evaluating, quoting, moving, reading, opening, receiving, admit, about}
 use Rattle.paper_desk.specs.External.{Receipt, together, notice}
 use Rattle.text_bytes.specs.Bytes.{same}
-use Rattle.text_protocol.specs.declared.Pairs.{Pairs}
 use Rattle.text_protocol.specs.Kept.{none_kept}
-use Rattle.text_protocol.specs.Names.{Name, RRCL0, RRCH0, RRCL1, RRCH1, RRCL2, RRCH2, evaluate_names, the}
+use Rattle.text_protocol.specs.Names.{Name, RRCL0, RRCH0, RRCL1, RRCH1, RRCL2, RRCH2, evaluate_names}
 use Rattle.text_protocol.specs.Line.{Said, Nothing, NoCall, Call as saysCall, meaning}
 use Rattle.text_protocol.specs.Calls.{Deed, nothing, no_call, call, interest, bond, deed_of, unsigned_of}
 use Rattle.journal_protocol.specs.Lines.{closed_line}

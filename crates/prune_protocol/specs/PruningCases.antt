@@ -1,5 +1,5 @@
 -- docs/JOURNAL.md, "Pruning", by examples: what is left of small journals.
-use Rattle.std.specs.Prelude.{◌≡◌, refl, List, [], ◌∷◌, ◌++◌, map, ℕ}
+use Rattle.std.specs.Prelude.{◌≡◌, refl, List, [], ◌∷◌, map, ℕ}
 use Prim.Native.String.{String}
 use Rattle.text_bytes.specs.Bytes.{same, bytes}
 use Rattle.text_protocol.specs.CallCases.{deed_by}

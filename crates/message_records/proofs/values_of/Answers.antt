@@ -1,4 +1,3 @@
-use Prim.Native.Nat.{◌-◌}
 use native.Mathlib.Omega.{arith}
 use Rattle.message_records.proofs.Values.{valuing_none, valuing_all}
 use Rattle.message_records.proofs.values_of.Goals as goal

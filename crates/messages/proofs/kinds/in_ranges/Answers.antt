@@ -5,7 +5,6 @@ use lib.IntN.{pos}
 use lib.ListN.{get_or}
 use Rattle.paper.specs.Ranges.{within_z}
 use Rattle.paper_messages.specs.Fields.{no_field}
-use Prim.Native.Nat.{◌-◌}
 use native.Mathlib.Omega.{arith}
 use Rattle.messages.proofs.RangeTurns.{judging_none, judging_out, judging_more, judging_all}
 use mathlib.Core.Path.{ap}

@@ -1,6 +1,5 @@
 use mir.Facts.{to_z-of_z}
 use Rattle.messages.proofs.Halves.{signed_fits}
-use Prim.Native.Nat.{◌-◌}
 use native.Mathlib.Omega.{arith}
 use Rattle.messages.proofs.Walks.{unpacking_none, unpacking_room, unpacking_more, unpacking_all}
 use Rattle.messages.proofs.widths.get_fields.Goals as goal

@@ -1,5 +1,4 @@
 -- `get_number` meets its contract: the loop keeps the number of the bytes from i on.
-use Prim.Native.Nat.{◌-◌}
 use Rattle.messages.proofs.ByteTurns.{Getting}
 use Rattle.messages.proofs.widths.get_number.Given as goal
 

@@ -5,7 +5,6 @@ use Prim.Native.Nat.{ℕ, zero, suc, ◌≤◌}
 use native.Mathlib.Omega.{arith}
 use lib.ListN.{get_or}
 use Rattle.messages.specs.FieldRoom.{greatest_of}
-use borrow.Author.Rules.{rules}
 use Rattle.messages.proofs.widths.greatest.Goals as goal
 
 table : List ℕ

@@ -1,6 +1,5 @@
 use mir.Facts.{to_z-of_z}
 use mir.Syntax.{w64}
-use Prim.Native.Nat.{◌-◌}
 use native.Mathlib.Omega.{arith}
 use Rattle.messages.proofs.Walks.{packing_none, packing_room, packed_mag_in_width, packing_more}
 use Rattle.messages.proofs.Walks.{packing_all}

@@ -1,4 +1,3 @@
-use Prim.Native.Nat.{◌-◌}
 use Rattle.messages.proofs.ByteTurns.{putting_none, putting_more, putting_all}
 use Rattle.messages.proofs.widths.put_number.Goals as goal
 
