@@ -3,7 +3,7 @@
 -- (`near_promised`). The first slot is a sound guess of every table (`zero_first`), what `place_near` gives is one
 -- (`near_first`), and every call keeps one (`first_kept`).
 use mathlib.Core.Path.{◌≡◌, refl, sym, ◌∙◌, ap, subst}
-use mathlib.Core.Logic.{◌≢◌, ◌⊎◌, inl, inr}
+use mathlib.Core.Logic.{◌⊎◌, inl, inr}
 use mathlib.Core.Bool.{Bool, true, false, not, ◌&&◌}
 use mathlib.Core.List.{List, [], ◌∷◌}
 use Prim.Native.Nat.{ℕ, suc, ◌<◌, ◌≤◌}
@@ -14,7 +14,6 @@ use lib.Seq.{get_or-set_same, get_or-set_other}
 use borrow.Author.Tests.{ltb-true, lt-ltb, eqb-true, eqb-false, le-ltb}
 use Rattle.paper.specs.declared.Record.{Record}
 use Rattle.paper.specs.declared.Answer.{Answer}
-use Rattle.paper.specs.declared.Admission.{Admission}
 use Rattle.paper.specs.declared.Verdict.TheVariants.{NoSuchId}
 use Rattle.paper.specs.Lists.{pick}
 use Rattle.paper.specs.Ranges.{valid_slots, sound}
@@ -27,11 +26,10 @@ use Rattle.paper_desk.proofs.Rules.{rule_holds}
 use Rattle.paper_desk.proofs.Others.{holds_after_step}
 use Rattle.paper_desk.proofs.PinnedLaws.{none_before_first}
 use Rattle.record_answers.specs.declared.Slot.{Slot}
-use Rattle.record_answers.specs.declared.Effect.{Effect}
 use Rattle.record_answers.specs.Effects.{slot_found, holds, is_known, refused_effect, judged_effect, effect_of, done_by}
 use Rattle.desk.specs.Promises.{Promised}
 use Rattle.desk.specs.Guesses.{slot_at, is_of, place_near, First, DoneAt}
-use Rattle.desk.proofs.Places.{absent_of, place_within}
+use Rattle.desk.proofs.Places.{absent_of}
 use Rattle.desk.proofs.Steps.{ask_steps}
 use Rattle.desk.proofs.Guesses.{slot_here, slot_past, slot_at_first, guess_none, guess_taken, guess_left}
 

@@ -9,7 +9,6 @@ use lib.ListN.{length, get_or}
 use Rattle.paper.specs.declared.Record.{Record}
 use Rattle.paper.specs.Lists.{pick}
 use Rattle.paper_desk.specs.Desk.{blank, place}
-use Rattle.record_answers.specs.declared.Slot.{Slot}
 use Rattle.record_answers.specs.Effects.{slot_found}
 use Rattle.desk.specs.Guesses.{slot_at, is_of, place_near}
 use Rattle.desk.proofs.Places.{absent_of, place_within, slot_at_place, slot_absent}

@@ -15,7 +15,7 @@ use Rattle.paper.specs.declared.Record.{Record}
 use Rattle.paper.specs.declared.Day.{Day}
 use Rattle.paper.specs.declared.Answer.{Answer}
 use Rattle.paper.specs.Verdicts.{is_done}
-use Rattle.paper_desk.specs.Desk.{evaluate, found, step}
+use Rattle.paper_desk.specs.Desk.{evaluate, found}
 use Rattle.desk.specs.Promises.{Promised}
 use Rattle.desk.specs.Determined.{Determined}
 use Rattle.desk.proofs.Determined.{together}

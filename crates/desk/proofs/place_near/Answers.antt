@@ -2,8 +2,7 @@
 -- and for another the place is searched.
 use mathlib.Core.Path.{◌≡◌, ap, sym, ◌∙◌, subst}
 use mathlib.Core.Bool.{Bool, true, false, not}
-use Prim.Native.Nat.{ℕ}
-use lib.Dec.{T, eqb}
+use lib.Dec.{T}
 use borrow.Author.Tests.{eq-eqb, ne_eqb}
 use Rattle.record_answers.specs.declared.Slot.{Slot}
 use Rattle.desk.specs.Guesses.{is_of}

@@ -8,11 +8,10 @@ use Rattle.record_calls.proofs.admission.admitted.Goals as goal
 
 -- each price in hand is the one that was given
 pub admitted_at-requires : goal.admitted_at-requires
-admitted_at-requires c =
-    (
-      (price_made_lem _ _ (sym c.new-later.ensures ∙ c.in-Made.is)).1,
-      (price_made_lem _ _ (sym c.new-earlier.ensures ∙ c.in-Made-earlier.is)).1,
-    )
+admitted_at-requires c = (
+  (price_made_lem _ _ (sym c.new-later.ensures ∙ c.in-Made.is)).1,
+  (price_made_lem _ _ (sym c.new-earlier.ensures ∙ c.in-Made-earlier.is)).1,
+)
 
 pub returns-in-OutOfRange : goal.returns-in-OutOfRange
 returns-in-OutOfRange c =
