@@ -32,14 +32,14 @@ use text_protocol::{
 
 // What the calls beside the table answer to a line, the interest side's and a bond's: only the one that the line asks
 // for counts.
-#[derive(Drop)]
+#[derive(Clone, Copy)]
 pub struct Beside {
     pub interest: InterestAnswer,
     pub bond: BondAnswer,
 }
 
 // What a line asks for, what is answered to it beside the table, and what is kept of the interest lines then.
-#[derive(Drop)]
+#[derive(Clone, Copy)]
 pub struct LineDeed {
     pub ask: Ask,
     pub beside: Beside,
