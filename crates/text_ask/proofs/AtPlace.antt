@@ -1,6 +1,6 @@
 -- What the desk says at the place that a sound guess gives is what it says of the id (`asked_there`), and whatever a line
 -- asks for leaves a sound guess sound (`asked_keeps`).
-use mathlib.Core.Path.{◌≡◌, sym, subst}
+use mathlib.Core.Path.{sym, subst}
 use mathlib.Core.Bool.{Bool}
 use mathlib.Core.List.{List}
 use Prim.Native.Nat.{ℕ}

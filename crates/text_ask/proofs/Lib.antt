@@ -1,5 +1,2 @@
 -- The laws of text_ask, a file each; other crates may cite them.
 pub mod AtPlace
-pub mod Typed
-pub mod Gives
-pub mod Hands
