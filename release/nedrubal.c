@@ -206,6 +206,15 @@ ssize_t nedrubal_read(int from, void *to, size_t length)
     return came;
 }
 
+/* In place of the call by which a program starts: it would have a write to a pipe that nobody reads fail, and here that
+   ends the process, as it does others. */
+long nedrubal_signal(int number, long how)
+{
+    (void)number;
+    (void)how;
+    return 0;
+}
+
 /* Starts the judge, and says whether it could. */
 static int call_judge(pid_t *judge)
 {
