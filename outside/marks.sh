@@ -1,7 +1,7 @@
 # Sourced by outside/root after machine.sh: which instructions of a program came of one function, wherever the compiler
 # has put them. It defines functions and changes nothing.
 #
-# The LLVM code that the toolchain hands to its clang is compiled once more with marks: every instruction says, as a
+# The LLVM code that rattle hands to its clang is compiled once more with marks: every instruction says, as a
 # debugger's lines are said, whether it stands in that function or in what it calls (line 1) or elsewhere (line 2). LLVM
 # carries such marks through its passes and makes the same instructions with them as without, but that it may fold a sum
 # into one `lea` with them and not without: `same_code` asks for that, function by function.
@@ -9,12 +9,12 @@
 # The LLVM code of a program, as FOLDER/handed.ll, and the words by which the kit's clang compiles it, as FOLDER/words.
 handed_code() { # NAME FOLDER
     outside/bitcode "$1" || exit
-    cp "target/bitcode/$1.ll" "$2/handed.ll" && cp "target/bitcode/$1.words" "$2/words" || exit 2
+    cp "target/code/x86_64/$1.ll" "$2/handed.ll" && cp "target/code/x86_64/$1.words" "$2/words" || exit 2
 }
 
 # The same for another machine.
 handed_code_for() { # TRIPLE NAME FOLDER
-    outside/bitcode "$2" || exit
+    outside/bitcode "$2" aarch64 || exit
     text_for "$1" "$2" >"$3/handed.ll" && words_for "$1" "$2" >"$3/words" || exit 2
 }
 
