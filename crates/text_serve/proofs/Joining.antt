@@ -17,9 +17,9 @@ use Rattle.text_evening.specs.Evening.{line_messages, all_messages}
 use Rattle.text_evening.specs.Streamed.{begun_stream, stream_on}
 use Rattle.text_evening.proofs.OneMore.{after_one_more, told_at}
 use Rattle.text_evening.proofs.StreamedLaws.{messages_one_more, stream_none, stream_goes_on}
-use Rattle.text_out.specs.Wrote.{Wrote, appended}
+use Rattle.text_out.specs.Wrote.{appended}
 use Rattle.text_evidence.specs.declared.Written.{Written}
-use Rattle.text_evidence.specs.Evidence.{counted, took_all, Counted, counted_none, counted_on, Hands}
+use Rattle.text_evidence.specs.Evidence.{took_all, Counted, counted_none, counted_on}
 use Rattle.text_input.specs.declared.Input.{Input}
 use Rattle.text_input.specs.Input.{line_length, Unbroken, unread, Stands, Over, Ends}
 use Rattle.text_turn.specs.declared.State.{State}

@@ -5,3 +5,4 @@ pub mod Joining
 pub mod Closing
 pub mod Keeping
 pub mod Noted
+pub mod Asking

@@ -1,10 +1,10 @@
 -- An entry is one of the row's (`entry_within`). What is noted is a sound guess (`noted_first`), and where it is the place
 -- that was found (`one_less_same`) its slot is good, so that nothing need be judged (`judged_good`). The row of notes stays sound: at the
 -- start (`none_sound`), and where a place that was found is noted and the line is performed (`noted_sound`).
-use mathlib.Core.Path.{◌≡◌, refl, sym, ◌∙◌, ap, subst}
+use mathlib.Core.Path.{◌≡◌, refl, sym, ◌∙◌, subst}
 use mathlib.Core.Logic.{◌≢◌}
 use mathlib.Core.Bool.{Bool, true, false, ◌&&◌, ◌||◌}
-use mathlib.Core.List.{List, [], ◌∷◌}
+use mathlib.Core.List.{List}
 use Prim.Native.Nat.{ℕ, zero, suc, ◌+◌, ◌-◌, ◌<◌, ◌^◌}
 use native.Mathlib.Nat.{mod-lt}
 use native.Mathlib.Omega.{arith}

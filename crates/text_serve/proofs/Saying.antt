@@ -19,7 +19,6 @@ use Rattle.paper.specs.declared.Day.{Day}
 use Rattle.paper.specs.declared.Record.{Record}
 use Rattle.paper.specs.Ranges.{statics_of}
 use Rattle.paper_desk.specs.Desk.{Ask as DeskAsk, ask_of, about, rule_of, step}
-use Rattle.paper_reasons.specs.AdmissionFaults.{field_at_fault}
 use Rattle.paper_reasons.specs.declared.Reasons.{Reasons as WhyReasons}
 use Rattle.paper_reasons.specs.Why.{no_reasons, why_on}
 use Rattle.text_protocol.specs.declared.AskedCall.{AskedCall}
