@@ -1,6 +1,6 @@
 -- The messages of an evening on a fresh table, from any line on: each is valid, has all of its places, and is neither
 -- `begin` nor `end`. So the whole stream of them is heard as whole, and reads back to all of them.
-use mathlib.Core.Path.{◌≡◌, refl, sym, ap, subst, ◌∙◌}
+use mathlib.Core.Path.{◌≡◌, refl, sym, subst}
 use mathlib.Core.Bool.{Bool, true, false}
 use mathlib.Core.List.{List, [], ◌∷◌, ◌++◌}
 use mathlib.Core.Option.{Option, none, some}
@@ -16,7 +16,7 @@ use Rattle.paper.specs.Lists.{pick, every}
 use Rattle.paper.specs.Verdicts.{is_done}
 use Rattle.paper.proofs.Logic.{and_left, and_right}
 use Rattle.paper_desk.specs.Desk.{Ask, evaluating, quoting, moving, reading, opening, receiving}
-use Rattle.paper_desk.specs.Desk.{Call, admit, about, rule_of, step, run}
+use Rattle.paper_desk.specs.Desk.{Call, admit, about, rule_of, step}
 use Rattle.paper_reasons.specs.declared.Reasons.{Reasons}
 use Rattle.sums.specs.Sums.{sum_of}
 use Rattle.paper_messages.specs.declared.Message.{Message}
@@ -26,10 +26,10 @@ use Rattle.paper_messages.specs.Messages.{valid}
 use Rattle.paper_messages.specs.Records.{past_signed, message, statics_message, rates_message, bands_message, move_message}
 use Rattle.paper_messages.specs.Records.{reasons_message, session_message}
 use Rattle.paper_streams.specs.Streams.{begin_message, end_message, begun, is_whole, messages_in}
-use Rattle.paper_streams.proofs.StreamLaws.{Plain, AllPlain, no_message_lem, and_plain, whole_is_heard, whole_reads_back}
+use Rattle.paper_streams.proofs.StreamLaws.{AllPlain, no_message_lem, and_plain, whole_is_heard, whole_reads_back}
 use Rattle.text_protocol.specs.Calls.{Deed, nothing, no_call, call, interest, bond}
 use Rattle.text_evening.specs.declared.Telling.TheVariants.{Messages}
-use Rattle.text_evening.specs.Evening.{Evening, start_evening, messages_told, after, asked_by, call_messages, messages_by}
+use Rattle.text_evening.specs.Evening.{Evening, start_evening, messages_told, asked_by, call_messages, messages_by}
 use Rattle.text_evening.specs.Evening.{after_all, line_messages, all_messages}
 use Rattle.text_evening.specs.Streamed.{stream_of}
 use Rattle.text_evening.proofs.OneMore.{after_one_more}
