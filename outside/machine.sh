@@ -411,12 +411,6 @@ count_proved() { # NAME LOG
     if [ -t 2 ] && [ "$proved" -gt 0 ]; then echo >&2; fi
 }
 
-# Whether .ci/run has seen rt ci pass on the present sources: then the programs, and the libraries as they were built,
-# stand in out/ of each crate.
-is_by_ci() {
-    [ "$(cat target/built/ci 2>/dev/null)" = "$(sources)" ]
-}
-
 # What `rt` says in a crate's folder, with the crates that it proves counted. It knows which crates have changed, and
 # proves those alone.
 rt_in() { # NAME VERB
@@ -432,10 +426,6 @@ rt_in() { # NAME VERB
 
 # `rt run` proves a program, builds it, and runs it; here on no input.
 prove_program() { # NAME
-    if is_by_ci && [ -f "crates/$1/out/$1" ]; then
-        mkdir -p target/bin && cp "crates/$1/out/$1" "target/bin/$1"
-        return
-    fi
     rm -f "crates/$1/out/$1"
     rt_in "$1" run
     grep -q "^rt: running out/$1;" "target/log/$1.run" && mkdir -p target/bin && cp "crates/$1/out/$1" "target/bin/$1"
@@ -445,13 +435,15 @@ prove_program() { # NAME
 need_program() { # NAME
     is_built "target/bin/$1" && return
     [ -f "crates/$1/src/main.rt" ] || cannot "there is no program $1 in crates/"
-    is_by_ci || echo "$1: proving what has changed and building it; all of it takes some minutes" >&2
+    echo "$1: proving what has changed and building it; all of it takes some minutes" >&2
     build "target/bin/$1" prove_program "$1" && return
     cat "target/log/$1.run" >&2
     cannot "$1 is not proved; see target/log/$1.run"
 }
 
-# The libraries below a crate, each in its own out/ as a proof of the present sources built it.
+# The libraries below a crate, each in its own out/ as a proof of the present sources built it. What rt ci leaves there
+# does not serve: it keeps libraries from several runs, and rattle refuses one that was proved over another build of one
+# below it. `rt run` and `rt check` build anew what does not fit.
 has_libraries() { # NAME
     for library in $(crates_below "$1"); do
         [ -f "crates/$library/out/rlib/$library.rlib/format" ] || return
@@ -459,7 +451,7 @@ has_libraries() { # NAME
 }
 
 need_libraries() { # NAME
-    { is_by_ci || is_built "target/bin/$1"; } && has_libraries "$1" && return
+    is_built "target/bin/$1" && has_libraries "$1" && return
     rt_in "$1" check
     grep -q '^rt: status 0$' "target/log/$1.check" && has_libraries "$1" && return
     cat "target/log/$1.check" >&2
