@@ -24,10 +24,8 @@ fn add_bytes(remainder: u32, bytes: &[u8]) -> u32
 {
     let table = steps();
     let mut left = remainder;
-    let mut i = 0;
-    while i < bytes.len() {
-        left = add_byte(&table, left, bytes[i]);
-        i += 1;
+    for byte in bytes {
+        left = add_byte(&table, left, *byte);
     }
     left
 }
