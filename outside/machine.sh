@@ -614,11 +614,7 @@ serve_lines() { # NAME [--strict] [--from N] [--whole] [FILE]
     exit "$status"
 }
 
-# The proved archive of a static library NAME or NAME_c, at target/staticlib/libNAME.a: C knows it by the shorter name.
-archive_of() { # NAME
-    echo "lib${1%_c}.a"
-}
-
+# The proved archive of a static library, at target/staticlib/libNAME.a.
 need_archive() { # NAME
     outside/bitcode "$1" || exit
 }

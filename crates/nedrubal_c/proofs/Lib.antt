@@ -1,2 +1,0 @@
--- What is proved of the exported calls beside their contracts: the order of their numbers.
-pub mod InOrder
