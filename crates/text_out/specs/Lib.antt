@@ -3,3 +3,4 @@ pub mod Places
 pub mod Wrote
 pub mod Told
 pub mod Sizes
+pub mod Appends
