@@ -47,7 +47,7 @@ fn carry_term(f: Flow, k: u64, repo: i64) -> u64
     requires amount_le_money_most { f.amount ≤ money_most }
     ensures { result ≡ carry_term repo k f }
 {
-    let days = exact::grow(YEAR_IN_DAY_BP, exact::less(k, f.day), repo);
+    let days = exact::grow(YEAR_IN_DAY_BP, k.saturating_sub(f.day), repo);
     exact::half_up(f.amount * days, YEAR_IN_DAY_BP)
 }
 

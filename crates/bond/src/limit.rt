@@ -38,7 +38,7 @@ fn in_per_cent(way: Way, b: BondScale, grown: u64) -> u64
 {
     exact::rounded(
         way,
-        ONE_IN_PER_CENT_HUNDREDTHS * exact::less(grown, b.carry + b.accrued),
+        ONE_IN_PER_CENT_HUNDREDTHS * grown.saturating_sub(b.carry + b.accrued),
         b.face,
     )
 }

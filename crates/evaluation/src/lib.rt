@@ -215,7 +215,7 @@ fn lesser_ask(a: u64, b: u64) -> u64
     if b == 0 {
         return a;
     }
-    exact::lesser(a, b)
+    a.min(b)
 }
 
 // The book with one row more. A row of weight 0 adds nothing to the close.
@@ -226,7 +226,7 @@ fn add(book: Book, r: Roubles) -> Book
     Book {
         weight: book.weight + r.weight,
         worth: book.worth + r.weight * r.close,
-        bid: exact::greater(book.bid, r.bid),
+        bid: book.bid.max(r.bid),
         ask: lesser_ask(book.ask, r.ask),
     }
 }
@@ -322,7 +322,7 @@ fn close_of(book: Book, previous: Price) -> u64
 fn median(a: u64, b: u64, c: u64) -> u64
     ensures { result ≡ median a b c }
 {
-    exact::greater(exact::lesser(a, b), exact::lesser(exact::greater(a, b), c))
+    a.min(b).max(a.max(b).min(c))
 }
 
 // The close between the sides that are present.
@@ -330,14 +330,10 @@ pub fn between(bid: u64, close: u64, ask: u64) -> u64
     ensures { result ≡ between bid close ask }
 {
     if bid == 0 {
-        if ask == 0 {
-            close
-        } else {
-            exact::lesser(close, ask)
-        }
+        if ask == 0 { close } else { close.min(ask) }
     } else {
         if ask == 0 {
-            exact::greater(close, bid)
+            close.max(bid)
         } else {
             median(bid, close, ask)
         }
@@ -368,7 +364,7 @@ pub fn evaluate(gathered: Gathered, previous: Price, used: External, g: u64) -> 
     match gathered {
         Gathered::Whole(book) => {
             let close = close_of(book, previous);
-            let bid = exact::greater(book.bid, used.bid);
+            let bid = book.bid.max(used.bid);
             let ask = lesser_ask(book.ask, used.ask);
             let figures = PriceFigures {
                 weight: book.weight,

@@ -3,10 +3,10 @@
 // callers can have.
 #![tactic(auto)]
 
-ghost use Rattle.std.specs.Prelude.{◌≡◌, false, ◌+◌, ◌-◌, ◌*◌, ◌/◌, ◌%◌, ◌^◌, ◌≤◌, ◌<◌, min, max, pos, length, get_or};
+ghost use Rattle.std.specs.Prelude.{◌≡◌, false, ◌+◌, ◌-◌, ◌*◌, ◌/◌, ◌%◌, ◌^◌, ◌≤◌, ◌<◌, pos, length, get_or};
 ghost use Rattle.std.specs.Int.Signed.{mag, lt_z};
 ghost use Rattle.paper.specs.Numbers.{one_in_ten_thousandths};
-ghost use Rattle.paper.specs.Roundings.{up, half_up, rounded, rounded_to, to_grid, grown, apart};
+ghost use Rattle.paper.specs.Roundings.{up, half_up, rounded, rounded_to, to_grid, grown};
 ghost use Rattle.paper.specs.Least.{least_root};
 ghost use Rattle.paper.specs.Ranges.{within_z, unsigned};
 ghost use Rattle.exact.specs.Remainders.{goes_up};
@@ -342,34 +342,4 @@ pub fn parts_within(
         return false;
     }
     every_within(numbers, least, most)
-}
-
-// ---- the lesser and the greater
-
-pub fn lesser(a: u64, b: u64) -> u64
-    ensures { result ≡ min a b }
-{
-    if a < b { a } else { b }
-}
-
-pub fn greater(a: u64, b: u64) -> u64
-    ensures { result ≡ max a b }
-{
-    if a < b { b } else { a }
-}
-
-// ---- how far apart two numbers are
-
-// a - b, stopping at 0.
-pub fn less(a: u64, b: u64) -> u64
-    ensures { result ≡ a - b }
-{
-    if b < a { a - b } else { 0 }
-}
-
-// |a - b|
-pub fn apart(a: u64, b: u64) -> u64
-    ensures { result ≡ apart a b }
-{
-    if a < b { b - a } else { a - b }
 }

@@ -204,5 +204,5 @@ pub fn valid_tentative(h: u64, tentative: u64) -> bool
     requires { 0 < h }
     ensures { result ≡ valid_tentative h tentative }
 {
-    (exact::less(tentative, h) < Tentative::MOST_BP) & (tentative % h == 0)
+    (tentative.saturating_sub(h) < Tentative::MOST_BP) & (tentative % h == 0)
 }

@@ -5,3 +5,4 @@ pub mod Lines
 pub mod Limits
 pub mod Bits
 pub mod SameRoot
+pub mod Ordered

@@ -2,7 +2,7 @@
 // zero: it comes lifted, and a limit is counted from a base, so that every sum here is one of natural numbers.
 ghost use Rattle.std.specs.Prelude.{◌≡◌, ◌-◌, ◌*◌, ◌^◌, ◌≤◌, ◌<◌, pos};
 ghost use Rattle.std.proofs.Math.IntN.{sub_ℕ};
-ghost use Rattle.paper_interest.specs.Interest.{is_held, limit_from, lesser_z, greater_z};
+ghost use Rattle.paper_interest.specs.Interest.{is_held, limit_from};
 ghost use Rattle.interest_maturities.specs.Points.{figure_most, PointRange, rate_of, Line, linear, point_between};
 ghost use Rattle.interest_maturities.specs.Pair.{PairRange, base, Margin, Risen, band_worked, band_held};
 
@@ -99,18 +99,6 @@ fn worked(i: Interest, m: Point, n: Point) -> RepoLimits
     }
 }
 
-fn lesser(x: i64, y: i64) -> i64
-    ensures { result ≡ lesser_z x y }
-{
-    if x <= y { x } else { y }
-}
-
-fn greater(x: i64, y: i64) -> i64
-    ensures { result ≡ greater_z x y }
-{
-    if x <= y { y } else { x }
-}
-
 // "Y0/Y1 is held by the money and security rollover rates."
 fn is_held(i: Interest) -> bool
     ensures { result ≡ is_held i }
@@ -128,8 +116,8 @@ pub fn band_of(i: Interest, m: Point, n: Point) -> RepoLimits
     let band = worked(i, m, n);
     if is_held(i) {
         RepoLimits {
-            low: greater(band.low, i.secrate),
-            high: lesser(band.high, i.money),
+            low: band.low.max(i.secrate),
+            high: band.high.min(i.money),
         }
     } else {
         band

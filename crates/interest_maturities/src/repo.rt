@@ -28,7 +28,7 @@ fn apart(x: i64, y: i64) -> u64
     requires { (nat_abs x ≤ nat_abs repo_most) × (nat_abs y ≤ nat_abs repo_most) }
     ensures { result ≡ apart_z x y }
 {
-    exact::apart(lifted(x), lifted(y))
+    lifted(x).abs_diff(lifted(y))
 }
 
 // How far the rate is from that of either evening before.
@@ -36,7 +36,7 @@ pub fn change_of(k: Maturity) -> u64
     requires { KeyRange k }
     ensures { result ≡ change_of k }
 {
-    exact::greater(apart(k.r, k.r1), apart(k.r, k.r2))
+    apart(k.r, k.r1).max(apart(k.r, k.r2))
 }
 
 // The shares' rule in basis points, with the old tentative rate as the last rate.
@@ -77,7 +77,7 @@ fn estimate(i: Interest, tentative: u64, minimum: u64) -> u64
     requires tentative_le_repo_tentative_most { (tentative ≤ repo_tentative_most) × (minimum ≤ repo_tentative_most) }
     ensures { result ≡ estimate_of i tentative minimum }
 {
-    rates::tentative::least_step(i.h, 1, exact::greater(tentative + i.liq, minimum))
+    rates::tentative::least_step(i.h, 1, (tentative + i.liq).max(minimum))
 }
 
 // HΔ.
@@ -94,7 +94,7 @@ fn security_minimum(index: i64, rate: i64, sec: u64) -> u64
     requires { (nat_abs index ≤ nat_abs repo_most) × (nat_abs rate ≤ nat_abs repo_most) × (sec ≤ minimum_most) }
     ensures { (result ≡ at_least_zero (security_minimum index rate sec)) × (result ≤ repo_tentative_most) }
 {
-    exact::less(lifted(index) + sec, lifted(rate))
+    (lifted(index) + sec).saturating_sub(lifted(rate))
 }
 
 // LΔ.

@@ -115,7 +115,7 @@ pub fn spread(st: Statics, side: Side, s1: Rate, c: u64) -> u64
     let away = (ONE_IN_HUNDREDTHS + 2 * c * st.shift) * s1.bp;
     match side {
         Side::Upper => middle + away,
-        Side::Lower => exact::less(middle, away),
+        Side::Lower => middle.saturating_sub(away),
     }
 }
 
@@ -138,8 +138,8 @@ pub fn narrower(side: Side, x: u64, y: u64) -> u64
     ensures { result ≡ narrower_of side x y }
 {
     match side {
-        Side::Upper => exact::lesser(x, y),
-        Side::Lower => exact::greater(x, y),
+        Side::Upper => x.min(y),
+        Side::Lower => x.max(y),
     }
 }
 
@@ -223,7 +223,7 @@ fn unmoved_spread(st: Statics, side: Side, s1: Rate) -> u64
     let middle = ONE_IN_HUNDREDTHS * st.xpr;
     match side {
         Side::Upper => middle + s1.bp,
-        Side::Lower => exact::less(middle, s1.bp),
+        Side::Lower => middle.saturating_sub(s1.bp),
     }
 }
 
@@ -384,7 +384,7 @@ pub fn range_moved(side: Side, delta: u64, x: Limits) -> Limits
             upper: x.upper + delta,
         },
         Side::Lower => Limits {
-            lower: exact::less(x.lower, delta),
+            lower: x.lower.saturating_sub(delta),
             upper: x.upper,
         },
     }

@@ -60,7 +60,7 @@ pub fn tentative_after(h: u64, wait: u64, t: u64, old: Tentative) -> Tentative
     } else {
         Tentative {
             bp: old.bp,
-            age: exact::lesser(Record::AGE_MOST, old.age + 1),
+            age: Record::AGE_MOST.min(old.age + 1),
         }
     }
 }

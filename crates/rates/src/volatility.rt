@@ -14,7 +14,7 @@ fn move_from(earlier: Price, p: Price) -> u64
     ensures { result ≡ move_from p.units earlier.units }
 {
     exact::up(
-        exact::apart(p.units, earlier.units) * ONE_IN_MILLIONTHS,
+        p.units.abs_diff(earlier.units) * ONE_IN_MILLIONTHS,
         earlier.units,
     )
 }
@@ -24,7 +24,7 @@ pub fn move_of(p1: Price, p2: Price, p: Price) -> u64
     requires { (is_price p1.units ≡ true) × (is_price p2.units ≡ true) × (is_price p.units ≡ true) }
     ensures { result ≡ move_of p.units p1.units p2.units }
 {
-    exact::greater(move_from(p1, p), move_from(p2, p))
+    move_from(p1, p).max(move_from(p2, p))
 }
 
 // The weights and the multiplier of a share.

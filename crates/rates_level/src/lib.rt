@@ -108,9 +108,9 @@ fn rate_near(h: u64, rh1: u64, smax: u64, own: Level, squares: Squares, guess: u
     let b = own.days * squares.liquidity;
     let steps = guessed_steps(guess, own.days);
     let minimum = own.minimum.bp;
-    let v = exact::greater(minimum, exact::lesser(smax, steps * h));
+    let v = minimum.max(smax.min(steps * h));
     let enough = (smax <= v) | reaches(v * rh1, a, b);
-    let least = (v <= minimum) | !reaches(exact::less(v, h) * rh1, a, b);
+    let least = (v <= minimum) | !reaches(v.saturating_sub(h) * rh1, a, b);
     if enough & least {
         return v;
     }

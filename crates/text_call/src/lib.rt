@@ -4,7 +4,7 @@
 
 pub mod kept; // what is kept of the interest lines
 
-ghost use Rattle.std.specs.Prelude.{◌≡◌, List, ◌≤◌, min, ℤ, pos, drop, get_or};
+ghost use Rattle.std.specs.Prelude.{◌≡◌, List, ◌≤◌, ℤ, pos, drop, get_or};
 ghost use Rattle.text_protocol.specs.Calls.{admission_of, quote_of, bits_of, float_of, outside_of, interest_of};
 ghost use Rattle.text_protocol.specs.Calls.{band_of, asked_of, notice_call, desk_call, call_asked};
 ghost use Rattle.text_call.specs.Terms.{term_at_place};
@@ -174,19 +174,10 @@ pub fn interest_of(zs: &[i64]) -> Interest
 
 // ---- the figures behind the named numbers
 
-pub fn least(a: usize, b: usize) -> usize
-    ensures { result ≡ min a b }
-{
-    if a <= b {
-        return a;
-    }
-    b
-}
-
 pub fn figures(zs: &[i64], from: usize) -> &[i64]
     ensures { result.now ≡ drop from zs.now }
 {
-    let start = least(from, zs.len());
+    let start = from.min(zs.len());
     &zs[start..]
 }
 

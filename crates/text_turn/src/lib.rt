@@ -12,7 +12,7 @@ ghost use Rattle.text_protocol.specs.Names.{evaluate_count};
 
 use paper_streams::Stream;
 use std::io::Stdin;
-use text_call::{figures, least};
+use text_call::figures;
 use text_deed::{Beside, asks_why, deed_of};
 use text_evening::Telling;
 use text_evidence::Written;
@@ -89,7 +89,7 @@ pub fn prepare(stdin: Stdin, buf: &mut [u8], xs: &mut [i64], s: State) -> Prepar
 pub fn rows_of(xs: &[i64], count: usize) -> &[i64]
     ensures { result.now ≡ drop evaluate_count (take count xs.now) }
 {
-    let end = least(count, xs.len());
+    let end = count.min(xs.len());
     figures(&xs[..end], EvaluatePlace::COUNT)
 }
 

@@ -18,4 +18,4 @@ overflow_add-result-2 c = omega (arith, product (goal.at.overflow_add-result-2 c
 
 pub returns : goal.returns
 unfolding added
-returns c = rw (c.lesser_ask.ensures, c.greater.ensures)
+returns c = rw (c.lesser_ask.ensures, c.max.ensures)

@@ -15,8 +15,8 @@ on_grid-requires c =
     let bounds = s.bound.bounded c.in-Whole.book c.in-Whole.is in
     let close : c.close_of-close.result ≤ price_most =
     rw c.close_of-close.ensures (close_le _ _ _ s.units_le_price_most.0 bounds.mean) in
-    let bid : c.greater-bid.result ≤ price_most =
-    rw c.greater-bid.ensures (omega (arith, bounds.bid, s.bid_le_price_most.0)) in
+    let bid : c.max-bid.result ≤ price_most =
+    rw c.max-bid.ensures (omega (arith, bounds.bid, s.bid_le_price_most.0)) in
     let ask : c.lesser_ask-ask.result ≤ price_most =
     rw c.lesser_ask-ask.ensures (lesser_le _ _ _ bounds.ask s.bid_le_price_most.1) in
     (s.units_le_price_most.1, s.units_le_price_most.2, rw c.between.ensures (between_le _ _ _ _ bid close ask))
@@ -27,7 +27,7 @@ returns-in-Whole c = λ numbers e v x.
       c.on_grid.ensures,
       c.between.ensures,
       c.lesser_ask-ask.ensures,
-      c.greater-bid.ensures,
+      c.max-bid.ensures,
       c.close_of-close.ensures,
     )
     (book_makes_evaluation _ _ _ _ c.in-Whole.book

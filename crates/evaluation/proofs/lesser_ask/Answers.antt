@@ -10,4 +10,4 @@ pub returns-then-b-eq0 : goal.returns-then-b-eq0
 returns-then-b-eq0 c = lesser_is_first _ _ c.if-b-eq0.true
 
 pub returns : goal.returns
-returns c = c.lesser.ensures ∙ lesser_is_min _ _ c.if-a-eq0.false c.if-b-eq0.false
+returns c = c.min.ensures ∙ lesser_is_min _ _ c.if-a-eq0.false c.if-b-eq0.false

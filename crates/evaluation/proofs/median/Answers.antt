@@ -6,8 +6,8 @@ pub returns : goal.returns
 unfolding median
 returns c =
     rw (
-      c.greater-2.ensures,
-      c.lesser-2.ensures,
-      c.greater.ensures,
-      c.lesser.ensures,
+      c.max-2.ensures,
+      c.min-2.ensures,
+      c.max.ensures,
+      c.min.ensures,
     )

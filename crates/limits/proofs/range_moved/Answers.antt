@@ -8,4 +8,4 @@ returns-in-Upper c = rw c.in-Upper.is
 
 pub returns-in-Lower : goal.returns-in-Lower
 unfolding range_moved_by
-returns-in-Lower c = rw (c.in-Lower.is, c.less.ensures)
+returns-in-Lower c = rw (c.in-Lower.is, c.saturating_sub.ensures)

@@ -13,4 +13,4 @@ pub returns-in-Upper : goal.returns-in-Upper
 returns-in-Upper c = rw c.in-Upper.is
 
 pub returns-in-Lower : goal.returns-in-Lower
-returns-in-Lower c = rw c.in-Lower.is c.less.ensures
+returns-in-Lower c = rw c.in-Lower.is c.saturating_sub.ensures

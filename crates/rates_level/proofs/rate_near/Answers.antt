@@ -9,25 +9,25 @@ use Rattle.paper.specs.Numbers.{rate_most}
 use Rattle.paper.proofs.Logic.{and_left, and_right}
 use Rattle.rates_level.specs.Level.{reach_most, covers_by, least_rate, Tried, enough, no_less}
 use Rattle.rates_level.proofs.Reach.{least_rate_within_most, held_is_tried, tried_is_least_rate}
-use Rattle.rates_level.proofs.rate_near.Goals.{After-greater-v, After-least_reach, After-less, Else-enough-least, Start, Then-enough-least}
+use Rattle.rates_level.proofs.rate_near.Goals.{After-max-v, After-least_reach, After-saturating_sub, Else-enough-least, Start, Then-enough-least}
 use Rattle.rates_level.proofs.rate_near.Goals as goal
 
 -- ---- the guess
 
 -- the start, from where the guess is held
-abbrev start : After-greater-v → Start
+abbrev start : After-max-v → Start
 start c = c.before.before.before.before.before.before.before
 
-is_tried : (c : After-greater-v)
+is_tried : (c : After-max-v)
     → let a = c.before.before.before.before.before.before.before.args in
-    Tried a.h a.smax a.own c.greater-v.result
+    Tried a.h a.smax a.own c.max-v.result
 is_tried c =
     let s = start c in
-    rw (c.greater-v.ensures, c.before.lesser.ensures)
+    rw (c.max-v.ensures, c.before.min.ensures)
     (held_is_tried s.args.h s.args.rh1 s.args.smax s.args.own s.args.squares _ s.requires.sought)
 
 -- no more than the guess is tried
-reach_high : (c : After-greater-v) (x : ℕ) → x ≤ c.greater-v.result
+reach_high : (c : After-max-v) (x : ℕ) → x ≤ c.max-v.result
     → x * (start c).args.rh1 ≤ reach_most
 reach_high c x l =
     let g = (start c).requires.sought in
@@ -35,19 +35,19 @@ reach_high c x l =
     mul-le-mul high g.first_high
 
 -- the guess that was held, from where a step is taken off
-abbrev held_before : After-less → After-greater-v
+abbrev held_before : After-saturating_sub → After-max-v
 held_before c = c.before.before
 
-less_reach_high : (c : After-less)
-    → c.less.result * (start (held_before c)).args.rh1 ≤ reach_most
-less_reach_high c = reach_high (held_before c) c.less.result (omega (arith, c.less.ensures))
+reach_high_below : (c : After-saturating_sub)
+    → c.saturating_sub.result * (start (held_before c)).args.rh1 ≤ reach_most
+reach_high_below c = reach_high (held_before c) c.saturating_sub.result (omega (arith, c.saturating_sub.ensures))
 
 -- where both tests pass, they say so of the guess
 both_pass : (c : Then-enough-least)
     → let less = c.before.before in
     let held = held_before less in
     let a = (start held).args in
-    let v = held.greater-v.result in
+    let v = held.max-v.result in
     (enough a.rh1 a.smax a.own a.squares v ≡ true) × (no_less a.h a.rh1 a.own a.squares v ≡ true)
 both_pass c =
     let below = c.before in
@@ -55,13 +55,13 @@ both_pass c =
     let reached = less.before in
     let held = held_before less in
     let a = (start held).args in
-    let v = held.greater-v.result in
+    let v = held.max-v.result in
     let is_enough : Bool → Bool = λ t. leb a.smax v || t in
     let is_least : Bool → Bool = λ t. leb v a.own.minimum.bp || not t in
     let tests = c.if-enough-least.true in (
       ap is_enough (sym reached.reaches.ensures)
           ∙ and_left (is_enough reached.reaches.result) (is_least below.reaches-2.result) tests,
-      ap (λ (x : ℕ). is_least (covers_by a.rh1 a.own a.squares x)) (sym less.less.ensures)
+      ap (λ (x : ℕ). is_least (covers_by a.rh1 a.own a.squares x)) (sym less.saturating_sub.ensures)
           ∙ ap is_least (sym below.reaches-2.ensures)
           ∙ and_right (is_enough reached.reaches.result) (is_least below.reaches-2.result) tests,
     )
@@ -87,20 +87,20 @@ rate_high c =
     g.most_multiple) g.most_high)
 
 pub overflow_mul-v : goal.overflow_mul-v
-overflow_mul-v c = omega (arith, reach_high (goal.at.overflow_mul-v c).After-greater-v c.greater-v.result (omega arith))
+overflow_mul-v c = omega (arith, reach_high (goal.at.overflow_mul-v c).After-max-v c.max-v.result (omega arith))
 
 pub reaches-requires : goal.reaches-requires
 reaches-requires c =
-    let g = (start (goal.at.reaches-requires c).After-greater-v).requires.sought in
-    (reach_high (goal.at.reaches-requires c).After-greater-v c.greater-v.result (omega arith), g.tentative_high, g.liquidity_high)
+    let g = (start (goal.at.reaches-requires c).After-max-v).requires.sought in
+    (reach_high (goal.at.reaches-requires c).After-max-v c.max-v.result (omega arith), g.tentative_high, g.liquidity_high)
 
-pub overflow_mul-less : goal.overflow_mul-less
-overflow_mul-less c = omega (arith, less_reach_high (goal.at.overflow_mul-less c).After-less)
+pub overflow_mul-saturating_sub : goal.overflow_mul-saturating_sub
+overflow_mul-saturating_sub c = omega (arith, reach_high_below (goal.at.overflow_mul-saturating_sub c).After-saturating_sub)
 
 pub reaches-requires-2 : goal.reaches-requires-2
 reaches-requires-2 c =
-    let g = (start (held_before (goal.at.reaches-requires-2 c).After-less)).requires.sought in
-    (less_reach_high (goal.at.reaches-requires-2 c).After-less, g.tentative_high, g.liquidity_high)
+    let g = (start (held_before (goal.at.reaches-requires-2 c).After-saturating_sub)).requires.sought in
+    (reach_high_below (goal.at.reaches-requires-2 c).After-saturating_sub, g.tentative_high, g.liquidity_high)
 
 pub overflow_mul-h : goal.overflow_mul-h
 overflow_mul-h c =
@@ -118,12 +118,12 @@ overflow_mul-steps c = omega (arith, mul-le-mul (le_of_lt c.guessed_steps-steps.
 
 pub returns-then-enough-least : goal.returns-then-enough-least
 returns-then-enough-least c =
-    let held = held_before (goal.at.returns-then-enough-least c).After-less in
+    let held = held_before (goal.at.returns-then-enough-least c).After-saturating_sub in
     let s = start held in
     let g = s.requires.sought in
     let tried = is_tried held in
     let passed = both_pass (goal.at.returns-then-enough-least c).Then-enough-least in (
       tried_is_least_rate s.args.h s.args.rh1 s.args.smax s.args.own s.args.squares
-          held.greater-v.result g tried passed.0 passed.1,
+          held.max-v.result g tried passed.0 passed.1,
       le_trans tried.high g.most_high,
     )

@@ -10,9 +10,9 @@ use Rattle.text_turn.proofs.Rows.{first_are}
 use Rattle.text_turn.proofs.rows_of.Goals as goal
 
 pub slice_bounds-figures-end : goal.slice_bounds-figures-end
-slice_bounds-figures-end c = sym (length-take-le _ _ (omega (arith, c.least-end.ensures)))
+slice_bounds-figures-end c = sym (length-take-le _ _ (omega (arith, c.min-end.ensures)))
 
 pub returns : goal.returns
 returns c =
     c.figures.ensures ∙ ap (λ (ys : List ℤ). drop evaluate_count ys)
-    (first_are c.args.xs.now _ _ c.least-end.ensures)
+    (first_are c.args.xs.now _ _ c.min-end.ensures)

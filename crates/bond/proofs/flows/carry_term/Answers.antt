@@ -15,11 +15,11 @@ use Rattle.bond.proofs.flows.carry_term.Goals.{After-grow-days}
 days_are : (c : After-grow-days)
     → c.grow-days.result
     ≡ grown year_in_day_bp (c.before.before.args.k - c.before.before.args.f.day) c.before.before.args.repo
-days_are c = rw (to_z-of_z c.before.before.ranges.repo, c.before.less.ensures) at c.grow-days.ensures
+days_are c = rw (to_z-of_z c.before.before.ranges.repo, c.before.saturating_sub.ensures) at c.grow-days.ensures
 
 pub grow-days-requires : goal.grow-days-requires
 grow-days-requires c =
-    rw (c.less.ensures, to_z-of_z c.ranges.repo)
+    rw (c.saturating_sub.ensures, to_z-of_z c.ranges.repo)
     (record { days = omega (arith, c.requires.carry_inputs.days); size = c.requires.carry_inputs.rate; least = omega arith; most = omega arith })
 
 pub overflow_mul-f : goal.overflow_mul-f

@@ -2,4 +2,4 @@
 use Rattle.bond.proofs.limit.in_per_cent.Goals as goal
 
 pub returns : goal.returns
-returns c = rw (c.rounded.ensures, c.less.ensures)
+returns c = rw (c.rounded.ensures, c.saturating_sub.ensures)

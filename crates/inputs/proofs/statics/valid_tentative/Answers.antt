@@ -41,6 +41,6 @@ unfolding valid_tentative
 returns c =
     let a = c.args in
     let rest : ℕ = a.tentative % a.h in
-    rw c.less.ensures
+    rw c.saturating_sub.ensures
     (same_where_second_passes _ _ (eqb rest 0)
     (λ e. step_less_below_most_is_within_top a.h a.tentative c.requires (eqb-true rest 0 e)))

@@ -5,13 +5,14 @@ use mir.Facts.{to_z-of_z}
 use borrow.Author.Rules.{rules}
 use Rattle.interest_maturities.proofs.Bits.{rate_kept_in_bits}
 use Rattle.interest_maturities.specs.Pair.{band_worked, band_held}
+use Rattle.interest_maturities.proofs.Ordered.{min_is_lesser, max_is_greater}
 use Rattle.interest_maturities.proofs.forward.band_of.Goals as goal
 
 pub returns-then-is_held : goal.returns-then-is_held
 unfolding band_held band_worked
 returns-then-is_held c =
-    let low : SFits w64 c.greater.result = search rules in
-    let high : SFits w64 c.lesser.result = search rules in
+    let low : SFits w64 c.max.result = search rules in
+    let high : SFits w64 c.min.result = search rules in
     let lower = to_z-of_z {w = w64} {z = c.worked-band.result.low} (search rules) in
     let upper = to_z-of_z {w = w64} {z = c.worked-band.result.high} (search rules) in
     let secrate = rate_kept_in_bits c.args.i.secrate c.requires.pair_range.given.secrate in
@@ -21,13 +22,15 @@ returns-then-is_held c =
       to_z-of_z high,
       ← c.is_held.ensures,
       c.if-is_held.true,
-      c.greater.ensures,
-      c.lesser.ensures,
+      c.max.ensures.value,
+      c.min.ensures.value,
       lower,
       upper,
       secrate,
       money,
       c.worked-band.ensures,
+      max_is_greater,
+      min_is_lesser,
     )
 
 pub returns-else-is_held : goal.returns-else-is_held

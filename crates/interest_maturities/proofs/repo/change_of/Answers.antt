@@ -7,7 +7,7 @@ pub returns : goal.returns
 unfolding change_of
 returns c =
     let k = c.args.k in
-    rw (c.greater.ensures, c.apart-2.ensures, c.apart.ensures)
+    rw (c.max.ensures, c.apart-2.ensures, c.apart.ensures)
     (simp (
       rate_kept_in_bits k.r c.requires.r,
       rate_kept_in_bits k.r1 c.requires.r1,

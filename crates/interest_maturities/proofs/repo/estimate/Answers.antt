@@ -4,4 +4,4 @@ use Rattle.interest_maturities.proofs.repo.estimate.Goals as goal
 
 pub returns : goal.returns
 unfolding estimate_of
-returns c = rw (c.least_step.ensures, c.greater.ensures)
+returns c = rw (c.least_step.ensures, c.max.ensures)

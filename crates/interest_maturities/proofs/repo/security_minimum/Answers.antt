@@ -21,8 +21,8 @@ overflow_add-lifted c =
 pub returns : goal.returns
 returns c =
     let a = c.args in
-    let is : c.less.result ≡ lifted a.index + a.sec - lifted a.rate =
-    rw (c.less.ensures, index_is (goal.at.returns c).After-lifted, rate_is (goal.at.returns c).After-lifted-2) in (
+    let is : c.saturating_sub.result ≡ lifted a.index + a.sec - lifted a.rate =
+    rw (c.saturating_sub.ensures, index_is (goal.at.returns c).After-lifted, rate_is (goal.at.returns c).After-lifted-2) in (
       rw is (lifted_part a.index a.rate a.sec c.requires.0 c.requires.1),
       omega (
         arith,

@@ -24,4 +24,4 @@ returns-then-t-h c = rw (lt-leb _ _ c.if-old-h.false, c.if-t-h.true)
 pub returns-else-t-h : goal.returns-else-t-h
 unfolding tentative_after
 returns-else-t-h c =
-    rw (lt-leb _ _ c.if-old-h.false, c.if-t-h.false, c.lesser.ensures)
+    rw (lt-leb _ _ c.if-old-h.false, c.if-t-h.false, c.min.ensures)

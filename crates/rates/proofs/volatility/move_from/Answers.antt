@@ -16,13 +16,13 @@ price_range : (p : ℕ) → is_price p ≡ true → (price_least ≤ p) × (p �
 unfolding is_price
 price_range p e = (leb-true _ _ (and_left (leb price_least p) _ e), leb-true _ _ (and_right (leb price_least p) _ e))
 
-pub overflow_mul-apart : goal.overflow_mul-apart
+pub overflow_mul-abs_diff : goal.overflow_mul-abs_diff
 unfolding apart
-overflow_mul-apart c = omega (arith, c.apart.ensures, price_range _ c.requires.0, price_range _ c.requires.1)
+overflow_mul-abs_diff c = omega (arith, c.abs_diff.ensures, price_range _ c.requires.0, price_range _ c.requires.1)
 
 pub up-requires : goal.up-requires
 up-requires c = (price_range _ c.requires.0).0
 
 pub returns : goal.returns
-unfolding move_from
-returns c = rw (c.up.ensures, c.apart.ensures)
+unfolding move_from apart
+returns c = rw (c.up.ensures, c.abs_diff.ensures)

@@ -4,4 +4,4 @@ use Rattle.rates.proofs.volatility.move_of.Goals as goal
 
 pub returns : goal.returns
 unfolding move_of
-returns c = rw (c.greater.ensures, c.move_from-2.ensures, c.move_from.ensures)
+returns c = rw (c.max.ensures, c.move_from-2.ensures, c.move_from.ensures)
