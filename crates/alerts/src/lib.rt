@@ -9,7 +9,7 @@ ghost use Rattle.std.specs.Prelude.{◌≡◌};
 ghost use Rattle.paper_desk.specs.Alerts.{is_near, near_after, alert, near_cleared};
 ghost use Rattle.alerts.specs.Nearness.{NearRange, closer};
 
-use paper::{Limits, Near, NearSeconds, ONE_IN_TEN_THOUSANDTHS, Side};
+use paper::{Limits, NearSeconds, ONE_IN_TEN_THOUSANDTHS, Side};
 
 // Whether to - from is strictly less than w·(PcH - PcL). A lent band may stand crossed, so that either difference may
 // be negative: what is taken away is added on the other side.
@@ -33,26 +33,26 @@ pub fn is_near(side: Side, w: u64, x: Limits, price: u64) -> bool
 }
 
 // "A near side keeps the second at which it became near; a quote that isn't near clears it."
-pub fn near_after(near: bool, old: Near, second: u64) -> Near
+pub fn near_after(near: bool, old: Option<u64>, second: u64) -> Option<u64>
     ensures { result ≡ near_after near old second }
 {
     if near {
         match old {
-            Near::Not => Near::Since(second),
-            Near::Since(earlier) => Near::Since(earlier),
+            None => Some(second),
+            Some(earlier) => Some(earlier),
         }
     } else {
-        Near::Not
+        None
     }
 }
 
 // "near, and at least u seconds since that second"
-pub fn alert(u: u64, n: Near, second: u64) -> bool
+pub fn alert(u: u64, n: Option<u64>, second: u64) -> bool
     ensures { result ≡ alert u n second }
 {
     match n {
-        Near::Not => false,
-        Near::Since(since) => {
+        None => false,
+        Some(since) => {
             if second < since {
                 false
             } else {
@@ -69,13 +69,7 @@ pub fn near_cleared(side: Side, n: NearSeconds) -> NearSeconds
     let top = n.top;
     let bottom = n.bottom;
     match side {
-        Side::Upper => NearSeconds {
-            top: Near::Not,
-            bottom,
-        },
-        Side::Lower => NearSeconds {
-            top,
-            bottom: Near::Not,
-        },
+        Side::Upper => NearSeconds { top: None, bottom },
+        Side::Lower => NearSeconds { top, bottom: None },
     }
 }

@@ -16,8 +16,8 @@ use crate::flows::{carry_of, flows_valid};
 use crate::limit::{is_crossed, limits_of};
 use interest_terms::term_of;
 use paper::{
-    BondScale, Day, GivenStatics, Limits, MadePrice, ONE_IN_PER_CENT_HUNDREDTHS, Price, Rate,
-    Record, Statics, Tentative, Term, Verdict,
+    BondScale, Day, GivenStatics, Limits, ONE_IN_PER_CENT_HUNDREDTHS, Price, Rate, Record, Statics,
+    Tentative, Term, Verdict,
 };
 use paper_bonds::{Bond, BondAnswer, BondLimits, BondStatics};
 
@@ -195,7 +195,7 @@ pub fn answer(b: Bond, flows: &[i64]) -> BondAnswer
     }
     let gross = Price::new(gross_of(b));
     match gross {
-        MadePrice::OutOfRange => refused(Verdict::PriceOutOfRange),
-        MadePrice::Made(p) => priced(b, p, flows),
+        None => refused(Verdict::PriceOutOfRange),
+        Some(p) => priced(b, p, flows),
     }
 }

@@ -3,7 +3,7 @@
 #![tactic(auto)]
 
 use paper::{
-    External, GivenStatics, Limit, Limits, Moves, Near, NearSeconds, Price, Rate, Record, Session,
+    External, GivenStatics, Limit, Limits, Moves, NearSeconds, Price, Rate, Record, Session,
     Standing, Statics, Tentative, Term,
 };
 use text_evening::Telling;
@@ -65,8 +65,8 @@ fn in_session(id: u64, session: Session) -> Record {
         }; Record::TERMS],
         moves: Moves { upper: 0, lower: 0 },
         near: [NearSeconds {
-            top: Near::Not,
-            bottom: Near::Not,
+            top: None,
+            bottom: None,
         }; Record::TERMS],
         second: 0,
         session,
@@ -181,8 +181,8 @@ fn with_bands(r: Record, lower: u64, upper: u64) -> Record {
 
 fn with_near(r: Record, second: u64) -> Record {
     let near = [NearSeconds {
-        top: Near::Not,
-        bottom: Near::Since(second),
+        top: None,
+        bottom: Some(second),
     }; Record::TERMS];
     let mut o = r;
     o.near = near;

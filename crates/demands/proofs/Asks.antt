@@ -2,7 +2,8 @@
 use mathlib.Core.Path.{◌≡◌, refl, ◌∙◌}
 use mathlib.Core.Bool.{Bool, true}
 use mathlib.Core.List.{List, ◌∷◌, map}
-use mathlib.Core.Option.{Option, none, some}
+use Rattle.std.specs.declared.option.Option.{Option}
+use Rattle.std.specs.declared.option.Option.TheVariants.{None, Some}
 use lib.ListN.{length, length-set}
 use Rattle.paper.specs.declared.Record.{Record}
 use Rattle.paper.specs.declared.Admission.{Admission}
@@ -17,8 +18,8 @@ use Rattle.demands.proofs.Sequences.{evaluated_figures, accepted_term_below_thre
 use Rattle.demands.proofs.Sequences.{moved_figures, read_figures, opened_figures, received_figures}
 
 abbrev pub WhereAny : {A : Type 0} → Option A → Type 0 → Type 0
-WhereAny none holds = Unit {0}
-WhereAny (some a) holds = holds
+WhereAny None holds = Unit {0}
+WhereAny (Some a) holds = holds
 
 pub record AskHolds (x : Ask) : Type 0 where
   -- its checks have the numbers of demand 1, in that order

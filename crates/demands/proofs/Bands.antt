@@ -3,7 +3,8 @@
 use mathlib.Core.Path.{◌≡◌, refl, sym, ◌∙◌, ap, subst}
 use mathlib.Core.Bool.{false}
 use mathlib.Core.List.{List, [], ◌∷◌}
-use mathlib.Core.Option.{Option, none, some}
+use Rattle.std.specs.declared.option.Option.{Option}
+use Rattle.std.specs.declared.option.Option.TheVariants.{None, Some}
 use Prim.Native.Nat.{ℕ, ◌<◌}
 use lib.IntN.{ℤ}
 use lib.ListN.{get_or}
@@ -29,7 +30,7 @@ use Rattle.demands.proofs.Figures.{lawful_figures, lawful_statics}
 
 -- ---- what is no evaluation
 
-module _ (a : Admission) (es : List Ask) (x : Ask) (other : (rule_of x).evaluates ≡ none) where
+module _ (a : Admission) (es : List Ask) (x : Ask) (other : (rule_of x).evaluates ≡ None) where
   carried_left : carries a (x ∷ es) ≡ carries a es
   unfolding carries
   carried_left =
@@ -56,15 +57,15 @@ module _ (a : Admission) (es : List Ask) (x : Ask) (other : (rule_of x).evaluate
       → crossed (band_now a (x ∷ es) last k) ≡ false
   unfolding band_now
   now_uncrossed o m no_day k s e = e
-  now_uncrossed none m (on_day d) k s e = rw (carried_left, moves_after_lem none m) e
-  now_uncrossed (some side) m (on_day d) k s e =
+  now_uncrossed None m (on_day d) k s e = rw (carried_left, moves_after_lem None m) e
+  now_uncrossed (Some side) m (on_day d) k s e =
       let p1 : ℕ = (carries a es).p1 in
       let s1 : ℕ = rate_at (carries a es).rates 0 in
-      rw (carried_left, moves_after_lem (some side) m, one_more_since side es)
+      rw (carried_left, moves_after_lem (Some side) m, one_more_since side es)
       (moved_not_crossed (statics_of a.given) side p1 s1 (moves_of es) (term_at d.terms k) s e)
 
 -- 9 does not apply to an evaluation
-evaluation_uncrossed : (r : Record) (x : Ask) (d : Day) (rows : List ℤ) → (rule_of x).evaluates ≡ some (d, rows)
+evaluation_uncrossed : (r : Record) (x : Ask) (d : Day) (rows : List ℤ) → (rule_of x).evaluates ≡ Some (d, rows)
     → NoneApplies ((rule_of x).checks r) → (k : ℕ) → k < 3
     → crossed (get_or ((rule_of x).made r).bands k no_limits) ≡ false
 evaluation_uncrossed r x d rows e =
@@ -82,8 +83,8 @@ lawful_uncrossed a (x ∷ es) (v, n) k l = go (rule_of x).evaluates refl (lawful
     go : (o : Option (Day × List ℤ)) → (rule_of x).evaluates ≡ o
         → crossed (get_or (record_of a es).bands k no_limits) ≡ false
         → crossed (get_or ((rule_of x).made (record_of a es)).bands k no_limits) ≡ false
-    go (some (d, rows)) e rest = evaluation_uncrossed (record_of a es) x d rows e n k l
-    go none e rest =
+    go (Some (d, rows)) e rest = evaluation_uncrossed (record_of a es) x d rows e n k l
+    go None e rest =
         let before : crossed (band_now a es (last_evaluated es) k) ≡ false =
         sym (ap crossed ((lawful_figures a es v).bands k l)) ∙ rest in
         ap crossed ((lawful_figures a (x ∷ es) (v, n)).bands k l)

@@ -3,7 +3,8 @@
 use mathlib.Core.Path.{◌≡◌, ap}
 use mathlib.Core.Bool.{true}
 use mathlib.Core.List.{List, [], ◌∷◌}
-use mathlib.Core.Option.{Option, none, some}
+use Rattle.std.specs.declared.option.Option.{Option}
+use Rattle.std.specs.declared.option.Option.TheVariants.{None, Some}
 use Prim.Native.Nat.{ℕ, suc, ◌*◌, ◌<◌}
 use lib.Dec.{leb}
 use lib.IntN.{ℤ}
@@ -82,9 +83,9 @@ carried a (y ∷ es) (l, n) on = go (rule_of y).evaluates (carried a es l on)
     go : (o : Option (Day × List ℤ)) → CarriedOn (evaluations es) x.s (exact_square a es)
         → CarriedOn (pick (is_one o) (suc (evaluations es)) (evaluations es)) (next o).s
         (square_then a o (exact_square a es) x (next o).p1)
-    go none rest = rest
-    go (some (d, rows)) rest =
-        let p : ℕ = (next (some (d, rows))).p1 in
+    go None rest = rest
+    go (Some (d, rows)) rest =
+        let p : ℕ = (next (Some (d, rows))).p1 in
         let positive : PricesPositive x = prices_positive a es l in
         rw (volatility_modelled st d.b d.m (rate_at x.rates 0) (move_of p x.p1 x.p2) x.s x.tentative
         on)

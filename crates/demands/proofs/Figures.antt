@@ -3,7 +3,8 @@
 use mathlib.Core.Path.{◌≡◌, refl, sym, ◌∙◌, ap}
 use mathlib.Core.Bool.{Bool, true, false}
 use mathlib.Core.List.{List, [], ◌∷◌}
-use mathlib.Core.Option.{Option, none, some}
+use Rattle.std.specs.declared.option.Option.{Option}
+use Rattle.std.specs.declared.option.Option.TheVariants.{None, Some}
 use Prim.Native.Nat.{ℕ, zero, suc, ◌+◌, ◌<◌}
 use native.Mathlib.Omega.{arith}
 use lib.IntN.{ℤ}
@@ -79,7 +80,7 @@ module _ (st : Statics) (b m s1 r s : ℕ) (old : Tentative) where
 -- the rates that an evaluation carries on, with the model on and off
 module _ (st : Statics) (d : Day) (rows : List ℤ) (kept : External) (x : Carries) where
   abbrev next : Carries
-  next = carries_then st (some (d, rows)) kept x
+  next = carries_then st (Some (d, rows)) kept x
 
   next_modelled : st.ewma ≡ true
       → next.rates ≡ for_levels (λ l. record { bp = level_rate st next.tentative.bp d.m l })
@@ -113,8 +114,8 @@ carried_modelled a (y ∷ es) d on e = go (rule_of y).evaluates e (carried_model
         → (last_evaluated es ≡ on_day d
         → x.rates ≡ for_levels (λ l. record { bp = level_rate st x.tentative.bp d.m l }))
         → (then o).rates ≡ for_levels (λ l. record { bp = level_rate st (then o).tentative.bp d.m l })
-    go none e rest = rest e
-    go (some (d', rows)) e rest =
+    go None e rest = rest e
+    go (Some (d', rows)) e rest =
         let same : d' ≡ d = cc in
         rw (← same) (next_modelled st d' rows (external_now es) x on)
 
@@ -129,8 +130,8 @@ carried_unmodelled a (y ∷ es) off = go (rule_of y).evaluates (carried_unmodell
 
     go : (o : Option (Day × List ℤ)) → (carries a es).rates ≡ for_levels (λ l. record { bp = minimum_of st l })
         → (carries_then st o (external_now es) (carries a es)).rates ≡ for_levels (λ l. record { bp = minimum_of st l })
-    go none rest = rest
-    go (some (d, rows)) rest = next_unmodelled st d rows (external_now es) (carries a es) off
+    go None rest = rest
+    go (Some (d, rows)) rest = next_unmodelled st d rows (external_now es) (carries a es) off
 
 pub lawful_statics : (a : Admission) (es : List Ask) → Lawful a es → valid_statics (statics_of a.given) ≡ true
 lawful_statics a [] v = admitted_statics_valid a v

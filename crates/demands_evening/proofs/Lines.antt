@@ -4,7 +4,8 @@
 use mathlib.Core.Path.{◌≡◌, refl, sym, ◌∙◌, ap, subst}
 use mathlib.Core.Bool.{true, false}
 use mathlib.Core.List.{List, [], ◌∷◌, ◌++◌}
-use mathlib.Core.Option.{Option, none, some}
+use Rattle.std.specs.declared.option.Option.{Option}
+use Rattle.std.specs.declared.option.Option.TheVariants.{None, Some}
 use Prim.Native.Nat.{ℕ, ◌≤◌, ◌<◌}
 use lib.Dec.{ltb}
 use lib.IntN.{ℤ}
@@ -19,7 +20,6 @@ use Rattle.paper.specs.Verdicts.{is_done}
 use Rattle.paper_desk.specs.Sides.{shows}
 use Rattle.paper_desk.specs.Desk.{Call, admit, about, evaluate, id_of, place, found, known, rule_of, step}
 use Rattle.paper_desk.specs.History.{is_admission}
-use Rattle.paper_reasons.specs.declared.FieldAtFault.TheVariants as field
 use Rattle.paper_reasons.specs.AdmissionFaults.{field_at_fault}
 use Rattle.paper_messages.specs.declared.Message.{Message}
 use Rattle.paper_messages.specs.Messages.{encode, valid}
@@ -62,15 +62,15 @@ valid_sent (m ∷ ms) v =
 -- all calls but an evaluation, and an admission with a number at fault, are told with why as they are answered
 reasons_are_answers : (c : Call) (t : List Record)
     → ((id : ℕ) (d : Day) (rows : List ℤ) → c ≡ evaluate id d rows → ⊥)
-    → ((a : Admission) → c ≡ admit a → field_at_fault a ≡ field.None) → reason_to c t ≡ answer_to c t
+    → ((a : Admission) → c ≡ admit a → field_at_fault a ≡ None) → reason_to c t ≡ answer_to c t
 unfolding reason_to field_text field_words words_text spelled call_text figures_answered answer_text spaced
 reasons_are_answers (admit a) t other unnamed =
     rw (unnamed a refl, pick_same {A = List ℤ} (is_done (step (admit a) t).answer.verdict) [])
 reasons_are_answers (about id x) t other unnamed = go (rule_of x).evaluates refl
   where
     go : (o : Option (Day × List ℤ)) → (rule_of x).evaluates ≡ o → reason_on id x o t ≡ answer_to (about id x) t
-    go none e = refl
-    go (some (d, rows)) e =
+    go None e = refl
+    go (Some (d, rows)) e =
         absurd (other id d rows (ap (about id) (subst (OnlyEvaluation x) e (rule_holds x).evaluation)))
 
 module _ (before : List (List ℕ)) (l : List ℕ) (c : Call) (asked : asked_by l (evening_behind before) ≡ call c) where

@@ -3,7 +3,8 @@
 use mathlib.Core.Path.{◌≡◌, refl, sym, subst}
 use mathlib.Core.Bool.{Bool, true, false}
 use mathlib.Core.List.{List, [], ◌∷◌, ◌++◌}
-use mathlib.Core.Option.{Option, none, some}
+use Rattle.std.specs.declared.option.Option.{Option}
+use Rattle.std.specs.declared.option.Option.TheVariants.{None, Some}
 use Prim.Native.Nat.{ℕ, suc, ◌<◌}
 use lib.Dec.{eqb, ltb}
 use lib.IntN.{ℤ}
@@ -55,16 +56,16 @@ both_shaped (and_shaped s p) q = and_shaped s (both_shaped p q)
 
 evaluation_shaped : (e : Option (Day × List ℤ)) (a : Answer) (y : Reasons) → AllShaped (of_evaluation e a y)
 unfolding rates_message bands_message reasons_message message filled
-evaluation_shaped none a y = none_shaped
-evaluation_shaped (some day) a y =
+evaluation_shaped None a y = none_shaped
+evaluation_shaped (Some day) a y =
     and_shaped (record { full = refl; no_begin = refl; no_end = refl })
     (and_shaped (record { full = refl; no_begin = refl; no_end = refl })
     (and_shaped (record { full = refl; no_begin = refl; no_end = refl }) none_shaped))
 
 move_shaped : (m : Option Side) (a : Answer) → AllShaped (of_move m a)
 unfolding move_message message filled
-move_shaped none a = none_shaped
-move_shaped (some side) a = and_shaped (record { full = refl; no_begin = refl; no_end = refl }) none_shaped
+move_shaped None a = none_shaped
+move_shaped (Some side) a = and_shaped (record { full = refl; no_begin = refl; no_end = refl }) none_shaped
 
 opening_shaped : (x : Ask) (a : Answer) → AllShaped (of_opening x a)
 unfolding session_message message filled

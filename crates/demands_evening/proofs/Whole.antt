@@ -3,7 +3,8 @@
 use mathlib.Core.Path.{◌≡◌, refl, subst}
 use mathlib.Core.Bool.{true}
 use mathlib.Core.List.{List, [], ◌∷◌, ◌++◌}
-use mathlib.Core.Option.{Option, none, some}
+use Rattle.std.specs.declared.option.Option.{Option}
+use Rattle.std.specs.declared.option.Option.TheVariants.{None, Some}
 use Prim.Native.Nat.{ℕ}
 use lib.IntN.{ℤ}
 use lib.ListN.{length}
@@ -63,13 +64,13 @@ both_valid (m ∷ ms) more v w =
 evaluation_valid : (e : Option (Day × List ℤ)) (a : Answer) (y : Reasons) → WhereAny e (sound a.rec ≡ true)
     → every valid (of_evaluation e a y) ≡ true
 unfolding every
-evaluation_valid none a y se = refl
-evaluation_valid (some day) a y se = rates_valid _ se & (bands_valid _ se & (reasons_valid _ se y & refl))
+evaluation_valid None a y se = refl
+evaluation_valid (Some day) a y se = rates_valid _ se & (bands_valid _ se & (reasons_valid _ se y & refl))
 
 moved_valid : (m : Option Side) (a : Answer) → WhereAny m (sound a.rec ≡ true) → every valid (of_move m a) ≡ true
 unfolding every
-moved_valid none a sm = refl
-moved_valid (some side) a sm = move_valid _ sm side & refl
+moved_valid None a sm = refl
+moved_valid (Some side) a sm = move_valid _ sm side & refl
 
 opening_valid : (id : ℕ) (x : Ask) (a : Answer) → (shows (about id x) ≡ true → sound a.rec ≡ true)
     → every valid (of_opening x a) ≡ true
@@ -82,8 +83,8 @@ opening_valid id opening a so = session_valid _ (so refl) & refl
 opening_valid id (receiving x) a so = refl
 
 where_any : {A P Q : Type 0} (o : Option A) → (P → Q) → WhereAny o P → WhereAny o Q
-where_any none f p = p
-where_any (some a) f p = f p
+where_any None f p = p
+where_any (Some a) f p = f p
 
 accepted_valid : (cs : List Call) (t : List Record) → FreshTable t → (c : Call)
     → is_done (step c (run cs t)).answer.verdict ≡ true

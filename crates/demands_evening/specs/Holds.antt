@@ -14,7 +14,7 @@ use Rattle.paper_desk.specs.Desk.{Ask, Call, admit, evaluate, id_of, blank, plac
 use Rattle.paper_desk.specs.History.{FreshTable, History, since, history_of, is_admission, evaluations}
 use Rattle.paper_desk.specs.Sequences.{on_day, last_evaluated}
 use Rattle.paper_desk.specs.Exact.{exact_square, NearExact}
-use Rattle.paper_reasons.specs.declared.FieldAtFault.TheVariants as field
+use Rattle.std.specs.declared.option.Option.TheVariants.{None}
 use Rattle.paper_reasons.specs.AdmissionFaults.{field_at_fault}
 use Rattle.paper_messages.specs.declared.Message.{Message}
 use Rattle.paper_messages.specs.Messages.{encode}
@@ -90,7 +90,7 @@ pub record LineHolds (before : List (List ℕ)) (l : List ℕ) (c : Call) : Type
   -- its number and with the place of the number at fault in the line
   pub printed : answer Answers l (evening_behind before) ≡ call_text c (step c (table_behind before)).answer
   pub printed_by_why : ((id : ℕ) (d : Day) (rows : List ℤ) → c ≡ evaluate id d rows → ⊥)
-      → ((a : Admission) → c ≡ admit a → field_at_fault a ≡ field.None)
+      → ((a : Admission) → c ≡ admit a → field_at_fault a ≡ None)
       → answer Reasons l (evening_behind before) ≡ call_text c (step c (table_behind before)).answer
   pub fault_by_why : (a : Admission) → c ≡ admit a
       → answer Reasons l (evening_behind before) ≡ field_text (answered c (table_behind before)) (field_at_fault a)

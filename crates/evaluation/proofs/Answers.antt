@@ -10,7 +10,8 @@ use lib.IntN.{ℤ}
 use borrow.Author.Tests.{eqb-false}
 use Rattle.paper.specs.declared.External.{External}
 use Rattle.paper.specs.declared.Price.{Price}
-use Rattle.paper.specs.declared.MadePrice.TheVariants as made
+use Rattle.std.specs.declared.option.Option.{Option}
+use Rattle.std.specs.declared.option.Option.TheVariants.{None, Some}
 use Rattle.paper.specs.declared.Row.{Row}
 use Rattle.paper.specs.declared.Roubles.{Roubles}
 use Rattle.paper.specs.Lists.{pick, every}
@@ -88,23 +89,23 @@ module _ (g previous : ℕ) (used : External) (rows : List Row) where
       step false p = absurd (let z : ◌≡◌ {A = ℕ} 0 1 = cc in omega arith)
 
 -- the evaluation as the price's constructor has it
-pub made_price_is_evaluated : (units : ℕ) (p : Price) (f : PriceFigures) → made.Made p ≡ price_made units
+pub made_price_is_evaluated : (units : ℕ) (p : Price) (f : PriceFigures) → Some p ≡ price_made units
     → Evaluated (record { price = p; figures = f }) ≡ evaluation_from units f
 unfolding price_made evaluation_from
 made_price_is_evaluated units p f k = step (is_price units) k
   where
-    step : (t : Bool) → made.Made p ≡ pick t (made.Made (record { units = units })) made.OutOfRange
+    step : (t : Bool) → Some p ≡ pick t (Some (record { units = units })) None
         → Evaluated (record { price = p; figures = f })
         ≡ pick t (Evaluated (record { price = record { units = units }; figures = f })) Beyond
     step true q = let same : p ≡ record { units = units } = cc in rw same
     step false q = absurd (let z : ◌≡◌ {A = ℕ} 0 1 = cc in omega arith)
 
-pub price_out_of_range_is_beyond : (units : ℕ) (f : PriceFigures) → made.OutOfRange ≡ price_made units
+pub price_out_of_range_is_beyond : (units : ℕ) (f : PriceFigures) → None ≡ price_made units
     → Beyond ≡ evaluation_from units f
 unfolding price_made evaluation_from
 price_out_of_range_is_beyond units f k = step (is_price units) k
   where
-    step : (t : Bool) → made.OutOfRange ≡ pick t (made.Made (record { units = units })) made.OutOfRange
+    step : (t : Bool) → ◌≡◌ {A = Option Price} None (pick t (Some (record { units = units })) None)
         → Beyond ≡ pick t (Evaluated (record { price = record { units = units }; figures = f })) Beyond
     step true q = absurd (let z : ◌≡◌ {A = ℕ} 0 1 = cc in omega arith)
     step false q = refl

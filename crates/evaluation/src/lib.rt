@@ -14,7 +14,7 @@ ghost use Rattle.evaluation.specs.Book.{Room, added, close_in, is_taken, Bound, 
 ghost use Rattle.evaluation.specs.Book.{EvaluatesTo};
 
 use inputs::is_price;
-use paper::{External, MadePrice, Price, Roubles, Row, YEAR_IN_DAY_BP};
+use paper::{External, Price, Roubles, Row, YEAR_IN_DAY_BP};
 
 // The days of a year: 3,650,000/10^4 of place (a).
 const YEAR_DAYS: u64 = YEAR_IN_DAY_BP / Row::ROUBLE;
@@ -347,8 +347,8 @@ fn on_grid(g: u64, p: u64, figures: PriceFigures) -> Evaluation
 {
     let made = Price::new(exact::to_grid(g, p, 1));
     match made {
-        MadePrice::Made(price) => Evaluation::Evaluated(Priced { price, figures }),
-        MadePrice::OutOfRange => Evaluation::Beyond,
+        Some(price) => Evaluation::Evaluated(Priced { price, figures }),
+        None => Evaluation::Beyond,
     }
 }
 

@@ -15,7 +15,7 @@ use Rattle.paper.specs.Lists.{pick}
 use Rattle.paper.specs.Numbers.{id_most, row_numbers}
 use Rattle.paper.specs.Verdicts.{number_of, is_done}
 use Rattle.text_bytes.specs.Bytes.{line_feed, digit_zero, digit_nine}
-use Rattle.text_bytes.specs.declared.Size.TheVariants as size
+use Rattle.std.specs.declared.option.Option.TheVariants.{None}
 use Rattle.text_bytes.specs.Numbers.{decimal, is_digit, size_from, size_of, answer_text}
 use Rattle.text_bytes.proofs.Spelling.{within_is_digit, low_no_digit, high_no_digit}
 use Rattle.text_out.specs.Wrote.{Wrote, then, wider}
@@ -41,8 +41,8 @@ over x y (b ∷ t) h k =
     (over (10 * x + (b - digit_zero)) (10 * y + (b - digit_zero)) t (omega arith) (omega arith))
   where
     go : (z : Bool) → settled (size_from (10 * x + (b - digit_zero)) t) ≡ settled (size_from (10 * y + (b - digit_zero)) t)
-        → settled (pick z (size_from (10 * x + (b - digit_zero)) t) size.Bad)
-        ≡ settled (pick z (size_from (10 * y + (b - digit_zero)) t) size.Bad)
+        → settled (pick z (size_from (10 * x + (b - digit_zero)) t) None)
+        ≡ settled (pick z (size_from (10 * y + (b - digit_zero)) t) None)
     go true e = e
     go false e = refl
 
@@ -88,7 +88,7 @@ module _ (p : List ℕ) (i n : ℕ) (a : Asking p i n) where
   asking_over h k = rw (drop_of_length-le p h, lt-leb n id_most k) at a.rest
 
   module _ (h : i < length p) (b : ℕ) (e : b ≡ get_or p i 0) where
-    opened : settled (pick (is_digit b) (size_from (10 * n + (b - digit_zero)) (drop (suc i) p)) size.Bad) ≡ asked_of p
+    opened : settled (pick (is_digit b) (size_from (10 * n + (b - digit_zero)) (drop (suc i) p)) None) ≡ asked_of p
     unfolding size_from
     opened = rw e (rw (drop-cons p i 0 h) at a.rest)
 

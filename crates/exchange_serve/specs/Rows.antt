@@ -3,8 +3,8 @@ use Rattle.std.specs.Prelude.{◌≡◌, true, false, List, [], ◌∷◌, ℕ, 
 use Rattle.paper.specs.Lists.{pick}
 use Rattle.paper.specs.Numbers.{id_most, row_numbers}
 use Rattle.paper.specs.Verdicts.{number_of, is_done}
-use Rattle.text_bytes.specs.declared.Size.{Size}
-use Rattle.text_bytes.specs.declared.Size.TheVariants as size
+use Rattle.std.specs.declared.option.Option.{Option}
+use Rattle.std.specs.declared.option.Option.TheVariants.{None, Some}
 use Rattle.text_bytes.specs.Numbers.{size_of, answer_text}
 use Rattle.exchange_protocol.specs.declared.Reading.{Reading}
 use Rattle.exchange_protocol.specs.Exchange.{text_most}
@@ -19,9 +19,9 @@ use Rattle.text_out.specs.Places.{number_bytes, next_bytes}
 use Rattle.text_out.specs.Sizes.{rows_bytes}
 
 -- one digit or more, zeros may lead; a number above the greatest id asks as 0 does, for a security that is in no text
-unfoldable pub settled : Size → AskedId
-settled (size.Is n) = asked.Id (pick (leb n id_most) n 0)
-settled size.Bad = asked.Bad
+unfoldable pub settled : Option ℕ → AskedId
+settled (Some n) = asked.Id (pick (leb n id_most) n 0)
+settled None = asked.Bad
 
 unfoldable pub asked_of : List ℕ → AskedId
 asked_of p = settled (size_of p)

@@ -68,7 +68,7 @@ fn limit_answer(g: GivenStatics, asked: AskedLimit, p: u64, rate: u64, side: u64
             return refusal(Verdict::OutOfRange);
         };
         if limit_in_range(st, asked, p, side) {
-            return figure(limit_of(st, asked, paper::side_of(side), p, rate));
+            return figure(limit_of(st, asked, Side::from(side), p, rate));
         }
         return refusal(Verdict::OutOfRange);
     }

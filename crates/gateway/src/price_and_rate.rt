@@ -2,7 +2,7 @@
 ghost use Rattle.std.specs.Prelude.{◌≡◌};
 ghost use Rattle.gateway.specs.PriceAndRate.{price_and_rate};
 
-use paper::{MadePrice, MadeRate, Price, Rate};
+use paper::{Price, Rate};
 
 // Both of them, or that a number is out of range: refusal 6.
 #[derive(Clone, Copy)]
@@ -17,10 +17,10 @@ pub fn price_and_rate(p: u64, rate: u64) -> PriceAndRate
     let price = Price::new(p);
     let rated = Rate::new(rate);
     match price {
-        MadePrice::OutOfRange => PriceAndRate::OutOfRange,
-        MadePrice::Made(x) => match rated {
-            MadeRate::OutOfRange => PriceAndRate::OutOfRange,
-            MadeRate::Made(y) => PriceAndRate::At(x, y),
+        None => PriceAndRate::OutOfRange,
+        Some(x) => match rated {
+            None => PriceAndRate::OutOfRange,
+            Some(y) => PriceAndRate::At(x, y),
         },
     }
 }

@@ -4,7 +4,7 @@
 #![tactic(auto)]
 
 use paper::Record;
-use text_protocol::EvaluatePlace;
+use text_protocol::evaluate_place;
 
 // The bytes of a text at most.
 pub const TEXT_MOST: usize = 1_048_576;
@@ -13,7 +13,7 @@ pub const TEXT_MOST: usize = 1_048_576;
 pub const SECURITIES_MOST: usize = Record::SLOTS_MOST;
 
 // The numbers of an evaluation that stand behind its id and before its rows: DAY B M, and K RRCL RRCH of each term.
-pub const DAY_NUMBERS: usize = EvaluatePlace::COUNT - 1;
+pub const DAY_NUMBERS: usize = evaluate_place::COUNT - 1;
 
 // The ids that may be asked for by words at most, as many as a table has slots.
 pub const ASKED_MOST: usize = Record::SLOTS_MOST;

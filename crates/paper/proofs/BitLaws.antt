@@ -9,8 +9,9 @@ use lib.Dec.{eqb, ltb}
 use lib.Pow.{pow_pos}
 use borrow.Author.Tests.{lt-ltb, eq-eqb, ne_eqb}
 use Rattle.paper.specs.declared.Way.TheVariants.{HalfUp}
-use Rattle.paper.specs.declared.MadePrice.{MadePrice}
-use Rattle.paper.specs.declared.MadePrice.TheVariants.{OutOfRange}
+use Rattle.std.specs.declared.option.Option.{Option}
+use Rattle.std.specs.declared.option.Option.TheVariants.{None}
+use Rattle.paper.specs.declared.Price.{Price}
 use Rattle.paper.specs.Numbers.{one_in_ten_thousandths}
 use Rattle.paper.specs.Lists.{pick}
 use Rattle.paper.specs.Roundings.{Quotient, half_up}
@@ -42,11 +43,11 @@ units_same x y p q e =
     same_rounded (one_in_ten_thousandths * x.num) x.den (one_in_ten_thousandths * y.num) y.den p q (omega arith)
 
 -- a value of zero is no unit, and that is no price
-no_unit : price_made (units_of (record { num = 0; den = 1 })) ≡ OutOfRange
+no_unit : price_made (units_of (record { num = 0; den = 1 })) ≡ None
 unfolding price_made is_price units_of half_up
 no_unit = refl
 
-pub value_zero_refused : (x : Quotient) → 0 < x.den → x.num ≡ 0 → price_made (units_of x) ≡ OutOfRange
+pub value_zero_refused : (x : Quotient) → 0 < x.den → x.num ≡ 0 → price_made (units_of x) ≡ None
 value_zero_refused x p e =
     ap price_made (units_same x (record { num = 0; den = 1 }) p (omega arith) (omega arith)) ∙ no_unit
 
@@ -56,17 +57,17 @@ scale_pos bits = pow_pos scale
 
 -- ---- what is no price
 
-pub second_fails : (p : Bool) (y : MadePrice) → pick (p && false) y OutOfRange ≡ OutOfRange
+pub second_fails : (p : Bool) (y : Option Price) → pick (p && false) y None ≡ None
 second_fails true y = refl
 second_fails false y = refl
 
 -- "isn't finite"
-pub endless_refused : (bits : ℕ) → is_finite bits ≡ false → price_of_bits bits ≡ OutOfRange
+pub endless_refused : (bits : ℕ) → is_finite bits ≡ false → price_of_bits bits ≡ None
 unfolding price_of_bits
 endless_refused bits h = rw h
 
 -- a float with a minus
-pub minus_refused : (bits : ℕ) → sign_bit ≤ bits → price_of_bits bits ≡ OutOfRange
+pub minus_refused : (bits : ℕ) → sign_bit ≤ bits → price_of_bits bits ≡ None
 unfolding price_of_bits is_above_zero
 minus_refused bits h =
     rw (ne_eqb (sign bits) 0 (λ (e : sign bits ≡ 0). omega arith))
@@ -88,7 +89,7 @@ plus_price bits f h = go (le_or_lt 1 (significand bits))
 
     go : (1 ≤ significand bits) ⊎ (significand bits < 1)
         → pick (is_finite bits && (eqb (sign bits) 0 && ltb 0 (significand bits)))
-        (price_made (units_of (exact_value bits))) OutOfRange
+        (price_made (units_of (exact_value bits))) None
         ≡ price_made (units_of (exact_value bits))
     go (inl l) = rw (f, plus, lt-ltb 0 (significand bits) l)
     go (inr l) =

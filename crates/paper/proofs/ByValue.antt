@@ -11,7 +11,7 @@ use lib.Ieee.Bits.{of_bits-to_bits}
 use lib.Ieee.Exact.{HasValue}
 use lib.Ieee.Fits.{down_pos}
 use borrow.Author.Tests.{leb-true, leb-false}
-use Rattle.paper.specs.declared.MadePrice.TheVariants.{OutOfRange}
+use Rattle.std.specs.declared.option.Option.TheVariants.{None}
 use Rattle.paper.specs.Ranges.{price_made}
 use Rattle.paper.specs.Floats.{sign_bit, exact_value, units_of, price_of_bits, price_of}
 use Rattle.paper.specs.FloatValues.{price_of_value}
@@ -34,7 +34,7 @@ positive_is_made bits m e h =
     (units_same (exact_value bits) (record { num = m * up e; den = down e }) (scale_pos bits) (down_pos e)
     (sym told.1))
 
-negative_is_refused : (bits m : ℕ) (e : ℤ) → of_bits binary64 bits ≡ fin true m e → price_of_bits bits ≡ OutOfRange
+negative_is_refused : (bits m : ℕ) (e : ℤ) → of_bits binary64 bits ≡ fin true m e → price_of_bits bits ≡ None
 negative_is_refused bits m e h = minus_refused bits (leb-true sign_bit bits (sym (value_told bits m true e h).0))
 
 -- ---- the whole rule
@@ -51,20 +51,20 @@ by_value (fin false m e) h =
 
 -- ---- "isn't finite, isn't above zero"
 
-pub nan_refused : price_of nan ≡ OutOfRange
+pub nan_refused : price_of nan ≡ None
 unfolding price_of is_nan
 nan_refused = refl
 
-pub infinity_refused : (s : Bool) → price_of (inf s) ≡ OutOfRange
+pub infinity_refused : (s : Bool) → price_of (inf s) ≡ None
 unfolding price_of_value fits
 infinity_refused s = by_value (inf s) tt
 
-pub negative_refused : (m : ℕ) (e : ℤ) → T (fits binary64 (fin true m e)) → price_of (fin true m e) ≡ OutOfRange
+pub negative_refused : (m : ℕ) (e : ℤ) → T (fits binary64 (fin true m e)) → price_of (fin true m e) ≡ None
 unfolding price_of_value
 negative_refused m e h = by_value (fin true m e) h
 
 -- the zero that has a minus is as what is below zero
-pub zero_refused : (s : Bool) (e : ℤ) → T (fits binary64 (fin s 0 e)) → price_of (fin s 0 e) ≡ OutOfRange
+pub zero_refused : (s : Bool) (e : ℤ) → T (fits binary64 (fin s 0 e)) → price_of (fin s 0 e) ≡ None
 unfolding price_of_value
 zero_refused true e h = by_value (fin true 0 e) h
 zero_refused false e h =

@@ -14,8 +14,8 @@ use lib.Ieee.Positive.{positive, positive_of_value, values_of_le}
 use borrow.Author.Tests.{lt-leb, ltb-true, eqb-true}
 use Rattle.paper.specs.declared.Way.TheVariants.{HalfUp}
 use Rattle.paper.specs.declared.Price.{Price}
-use Rattle.paper.specs.declared.MadePrice.{MadePrice}
-use Rattle.paper.specs.declared.MadePrice.TheVariants.{Made, OutOfRange}
+use Rattle.std.specs.declared.option.Option.{Option}
+use Rattle.std.specs.declared.option.Option.TheVariants.{None, Some}
 use Rattle.paper.specs.Lists.{pick}
 use Rattle.paper.specs.Ranges.{is_price, price_made}
 use Rattle.paper.proofs.Logic.{not_true_and_false, and_left, and_right, and_both}
@@ -41,7 +41,7 @@ bits_right bits = go (is_finite bits && is_above_zero bits) (is_price (units_of 
   where
     go : (t u : Bool) → (is_finite bits && is_above_zero bits) ≡ t → is_price (units_of (exact_value bits)) ≡ u
         → RightPrice bits
-        (pick t (pick u (Made (record { units = units_of (exact_value bits) })) OutOfRange) OutOfRange)
+        (pick t (pick u (Some (record { units = units_of (exact_value bits) })) None) None)
     go true true f i =
         record {
           finite = and_left (is_finite bits) (is_above_zero bits) f;
@@ -74,7 +74,7 @@ unfolding price_of
 pattern_price bits w = go (is_nan (of_bits binary64 bits)) refl
   where
     go : (t : Bool) → is_nan (of_bits binary64 bits) ≡ t
-        → pick t OutOfRange (price_of_bits (to_bits binary64 (of_bits binary64 bits))) ≡ price_of_bits bits
+        → pick t None (price_of_bits (to_bits binary64 (of_bits binary64 bits))) ≡ price_of_bits bits
     go true h = sym (endless_refused bits (no_number bits h (is_finite bits) refl))
     go false h = ap price_of_bits (to_bits-of_bits binary64 bits w (rw h tt))
 
@@ -85,12 +85,12 @@ every_pattern bits w = rw (pattern_price bits w) (bits_right bits)
 pub price_right : (x : Float) → T (fits binary64 x) → RightPrice (to_bits binary64 x) (price_of x)
 price_right x h = rw (of_bits-to_bits binary64 x h) at (every_pattern (to_bits binary64 x) (to_bits-lt binary64 x h))
 
-pub price_unique : (bits : ℕ) (p q : MadePrice) → RightPrice bits p → RightPrice bits q → p ≡ q
-price_unique bits (Made p) (Made q) a b =
-    ap (λ (u : ℕ). Made (record { units = u })) (units_are bits p.units a ∙ sym (units_are bits q.units b))
-price_unique bits (Made p) OutOfRange a b = absurd (b p.units a)
-price_unique bits OutOfRange (Made q) a b = absurd (a q.units b)
-price_unique bits OutOfRange OutOfRange a b = refl
+pub price_unique : (bits : ℕ) (p q : Option Price) → RightPrice bits p → RightPrice bits q → p ≡ q
+price_unique bits (Some p) (Some q) a b =
+    ap (λ (u : ℕ). Some (record { units = u })) (units_are bits p.units a ∙ sym (units_are bits q.units b))
+price_unique bits (Some p) None a b = absurd (b p.units a)
+price_unique bits None (Some q) a b = absurd (a q.units b)
+price_unique bits None None a b = refl
 
 -- ---- a greater float is never fewer units
 
@@ -123,7 +123,7 @@ units_ordered a b u v r s l =
     (right_value b v s) l))
 
 pub greater_not_fewer : (x y : Float) (p q : Price) → T (fits binary64 x) → T (fits binary64 y) → T (le x y)
-    → price_of x ≡ Made p → price_of y ≡ Made q → p.units ≤ q.units
+    → price_of x ≡ Some p → price_of y ≡ Some q → p.units ≤ q.units
 greater_not_fewer x y p q f g l c d =
     units_ordered (to_bits binary64 x) (to_bits binary64 y) p.units q.units (rw c at (price_right x f))
     (rw d at (price_right y g)) (rw (of_bits-to_bits binary64 x f, of_bits-to_bits binary64 y g) l)

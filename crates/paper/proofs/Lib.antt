@@ -8,3 +8,4 @@ pub mod ExactValues
 pub mod BitLaws
 pub mod ByValue
 pub mod EveryPattern
+pub mod Same

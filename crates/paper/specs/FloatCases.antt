@@ -3,16 +3,17 @@
 use Rattle.std.specs.Prelude.{◌≡◌, refl, List, [], ◌∷◌, map, ℕ}
 use Rattle.std.specs.Float.{binary64}
 use Rattle.std.specs.Float.Ieee.{of_bits, to_bits, is_nan}
-use Rattle.paper.specs.declared.MadePrice.{MadePrice}
-use Rattle.paper.specs.declared.MadePrice.TheVariants.{Made, OutOfRange}
+use Rattle.std.specs.declared.option.Option.{Option}
+use Rattle.std.specs.declared.option.Option.TheVariants.{None, Some}
+use Rattle.paper.specs.declared.Price.{Price}
 use Rattle.paper.specs.Roundings.{half_up}
 use Rattle.paper.specs.Ranges.{is_price, price_made}
 use Rattle.paper.specs.Floats.{significand, exact_value, is_above_zero, units_of, price_of_bits, price_of}
 
 -- the units of a price, and 0 of none: no price is 0
-abbrev pub units_shown : MadePrice → ℕ
-units_shown (Made price) = price.units
-units_shown OutOfRange = 0
+abbrev pub units_shown : Option Price → ℕ
+units_shown (Some price) = price.units
+units_shown None = 0
 
 record Line : Type 0 where
   bits : ℕ

@@ -3,13 +3,14 @@
 use Rattle.std.specs.Prelude.{◌*◌, true, false, Float}
 use Rattle.std.specs.Float.{nan, inf, fin}
 use Rattle.std.specs.Float.Ieee.{up, down}
-use Rattle.paper.specs.declared.MadePrice.{MadePrice}
-use Rattle.paper.specs.declared.MadePrice.TheVariants.{OutOfRange}
+use Rattle.std.specs.declared.option.Option.{Option}
+use Rattle.std.specs.declared.option.Option.TheVariants.{None}
+use Rattle.paper.specs.declared.Price.{Price}
 use Rattle.paper.specs.Ranges.{price_made}
 use Rattle.paper.specs.Floats.{units_of}
 
-unfoldable pub price_of_value : Float → MadePrice
-price_of_value nan = OutOfRange
-price_of_value (inf s) = OutOfRange
-price_of_value (fin true m e) = OutOfRange
+unfoldable pub price_of_value : Float → Option Price
+price_of_value nan = None
+price_of_value (inf s) = None
+price_of_value (fin true m e) = None
 price_of_value (fin false m e) = price_made (units_of (record { num = m * up e; den = down e }))

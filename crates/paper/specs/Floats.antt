@@ -6,8 +6,9 @@ use Rattle.std.specs.Prelude.{◌≡◌, Bool, true, ◌&&◌, ℕ, ◌+◌, ◌
 use Rattle.std.specs.Float.{binary64}
 use Rattle.std.specs.Float.Ieee.{is_nan, to_bits}
 use Rattle.paper.specs.declared.Way.TheVariants.{HalfUp}
-use Rattle.paper.specs.declared.MadePrice.{MadePrice}
-use Rattle.paper.specs.declared.MadePrice.TheVariants.{Made, OutOfRange}
+use Rattle.std.specs.declared.option.Option.{Option}
+use Rattle.std.specs.declared.option.Option.TheVariants.{None, Some}
+use Rattle.paper.specs.declared.Price.{Price}
 use Rattle.paper.specs.Lists.{pick}
 use Rattle.paper.specs.Numbers.{one_in_ten_thousandths}
 use Rattle.paper.specs.Roundings.{Quotient, rounded, Rounded}
@@ -73,12 +74,12 @@ units_of x = rounded HalfUp (in_ten_thousandths x).num (in_ten_thousandths x).de
 
 -- ---- the price, or none: refusal 20
 
-unfoldable pub price_of_bits : (bits : ℕ) → MadePrice
-price_of_bits bits = pick (is_finite bits && is_above_zero bits) (price_made (units_of (exact_value bits))) OutOfRange
+unfoldable pub price_of_bits : (bits : ℕ) → Option Price
+price_of_bits bits = pick (is_finite bits && is_above_zero bits) (price_made (units_of (exact_value bits))) None
 
 -- the logic has one float for all the patterns of what is no number, and reads no bits of it
-unfoldable pub price_of : Float → MadePrice
-price_of x = pick (is_nan x) OutOfRange (price_of_bits (to_bits binary64 x))
+unfoldable pub price_of : Float → Option Price
+price_of x = pick (is_nan x) None (price_of_bits (to_bits binary64 x))
 
 -- ---- what it is
 
@@ -90,6 +91,6 @@ pub record RightUnits (bits units : ℕ) : Type 0 where
   pub in_range_lem : is_price units ≡ true
 
 -- that is the right answer: these units, or that no number of units is the price
-abbrev pub RightPrice : (bits : ℕ) → MadePrice → Type 0
-RightPrice bits (Made price) = RightUnits bits price.units
-RightPrice bits OutOfRange = (units : ℕ) → RightUnits bits units → ⊥
+abbrev pub RightPrice : (bits : ℕ) → Option Price → Type 0
+RightPrice bits (Some price) = RightUnits bits price.units
+RightPrice bits None = (units : ℕ) → RightUnits bits units → ⊥

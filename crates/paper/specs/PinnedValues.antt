@@ -7,8 +7,8 @@ use Rattle.paper.specs.declared.Standing.{Standing}
 use Rattle.paper.specs.declared.Standing.TheVariants.{Admitted, Live}
 use Rattle.paper.specs.declared.Session.{Session}
 use Rattle.paper.specs.declared.Session.TheVariants.{Main, Evening}
-use Rattle.paper.specs.declared.Near.{Near}
-use Rattle.paper.specs.declared.Near.TheVariants.{Not, Since}
+use Rattle.std.specs.declared.option.Option.{Option}
+use Rattle.std.specs.declared.option.Option.TheVariants.{None, Some}
 use Rattle.paper.specs.declared.Limits.{Limits}
 use Rattle.paper.specs.declared.Term.{Term}
 use Rattle.paper.specs.declared.Record.{Record}
@@ -163,9 +163,9 @@ admission_from xs =
 unfoldable pub standing_from : (live day : ℕ) → Standing
 standing_from live day = pick (eqb live 1) (Live day) (Admitted day)
 
-unfoldable pub near_from : ℕ → Near
-near_from zero = Not
-near_from (suc second) = Since second
+unfoldable pub near_from : ℕ → Option ℕ
+near_from zero = None
+near_from (suc second) = Some second
 
 unfoldable pub session_from : ℕ → Session
 session_from zero = Main

@@ -2,13 +2,11 @@
 -- and what a sound record is.
 use Rattle.std.specs.Prelude.{Bool, true, false, ◌&&◌, ◌||◌, List, [], ◌∷◌, ℕ, zero, suc, ◌+◌, ◌*◌, ◌/◌, ◌%◌, ◌^◌, leb, eqb, ℤ, pos, negsuc, length, get_or}
 use Rattle.std.specs.Int.Signed.{le_z}
-use Rattle.paper.specs.declared.MadePrice.{MadePrice}
-use Rattle.paper.specs.declared.MadePrice.TheVariants as made-price
+use Rattle.std.specs.declared.option.Option.{Option}
+use Rattle.std.specs.declared.option.Option.TheVariants.{None, Some}
+use Rattle.paper.specs.declared.Limit.{Limit}
+use Rattle.paper.specs.declared.Price.{Price}
 use Rattle.paper.specs.declared.Rate.{Rate}
-use Rattle.paper.specs.declared.MadeRate.{MadeRate}
-use Rattle.paper.specs.declared.MadeRate.TheVariants as made-rate
-use Rattle.paper.specs.declared.MadeLimit.{MadeLimit}
-use Rattle.paper.specs.declared.MadeLimit.TheVariants as made-limit
 use Rattle.paper.specs.declared.Statics.{Statics}
 use Rattle.paper.specs.declared.GivenStatics.{GivenStatics}
 use Rattle.paper.specs.declared.Standing.{Standing}
@@ -18,8 +16,6 @@ use Rattle.paper.specs.declared.Session.TheVariants.{Main, Evening}
 use Rattle.paper.specs.declared.External.{External}
 use Rattle.paper.specs.declared.Side.{Side}
 use Rattle.paper.specs.declared.Side.TheVariants.{Upper, Lower}
-use Rattle.paper.specs.declared.Near.{Near}
-use Rattle.paper.specs.declared.Near.TheVariants.{Not, Since}
 use Rattle.paper.specs.declared.NearSeconds.{NearSeconds}
 use Rattle.paper.specs.declared.Limits.{Limits}
 use Rattle.paper.specs.declared.Term.{Term}
@@ -62,19 +58,19 @@ unsigned_at numbers place = unsigned (get_or numbers place (pos 0))
 unfoldable pub is_price : (p : ℕ) → Bool
 is_price p = within price_least price_most p
 
-unfoldable pub price_made : (units : ℕ) → MadePrice
-price_made units = pick (is_price units) (made-price.Made (record { units = units })) made-price.OutOfRange
+unfoldable pub price_made : (units : ℕ) → Option Price
+price_made units = pick (is_price units) (Some (record { units = units })) None
 
 -- "Rate: basis point (bp), 10,000 = 100 per cent"
 unfoldable pub is_rate : (bp : ℕ) → Bool
 is_rate bp = leb bp rate_most
 
-unfoldable pub rate_made : (bp : ℕ) → MadeRate
-rate_made bp = pick (is_rate bp) (made-rate.Made (record { bp = bp })) made-rate.OutOfRange
+unfoldable pub rate_made : (bp : ℕ) → Option Rate
+rate_made bp = pick (is_rate bp) (Some (record { bp = bp })) None
 
 -- "limits .. 0..2·10^12 + 2·10^10": the range of a limit, which lies on the grid besides (`is_limit`)
-unfoldable pub limit_made : (units : ℕ) → MadeLimit
-limit_made units = pick (leb units limit_most) (made-limit.Made (record { units = units })) made-limit.OutOfRange
+unfoldable pub limit_made : (units : ℕ) → Option Limit
+limit_made units = pick (leb units limit_most) (Some (record { units = units })) None
 
 -- "Grid (10.1): ceiling(log10 lot) + 2 decimals. So g = 100 units for lot 1, 10 for 2..10, 1 for 11..100."
 unfoldable pub grid_of : (lot : ℕ) → ℕ
@@ -479,7 +475,7 @@ abbrev pub band_at : Record → (k : ℕ) → Limits
 band_at r k = get_or r.bands k no_limits
 
 abbrev pub not_near : NearSeconds
-not_near = record { top = Not; bottom = Not }
+not_near = record { top = None; bottom = None }
 
 -- "limits on the grid 0..2·10^12 + 2·10^10"
 unfoldable pub is_limit : (g x : ℕ) → Bool
@@ -488,9 +484,9 @@ is_limit g x = leb x limit_most && eqb (x % g) 0
 unfoldable pub valid_limits : (g : ℕ) → Limits → Bool
 valid_limits g x = is_limit g x.lower && is_limit g x.upper
 
-unfoldable pub valid_near : Near → Bool
-valid_near Not = true
-valid_near (Since second) = leb second second_last
+unfoldable pub valid_near : Option ℕ → Bool
+valid_near None = true
+valid_near (Some second) = leb second second_last
 
 unfoldable pub valid_near_seconds : NearSeconds → Bool
 valid_near_seconds n = valid_near n.top && valid_near n.bottom

@@ -41,16 +41,11 @@ pub const GRID_OF_ONE: u64 = 100;
 
 pub const GRID_TO_TEN: u64 = 10;
 
-// A price, in ten-thousandths of a rouble.
+// A price, in ten-thousandths of a rouble. Price, Rate and Limit have a constructor each: a trait with their ends and
+// their fields would be longer than the three bodies.
 #[derive(Clone, Copy)]
 pub struct Price {
     pub units: u64,
-}
-
-#[derive(Clone, Copy)]
-pub enum MadePrice {
-    Made(Price),
-    OutOfRange,
 }
 
 impl Price {
@@ -58,39 +53,33 @@ impl Price {
 
     pub const MOST_UNITS: u64 = 10_000_000_000;
 
-    pub fn new(units: u64) -> MadePrice
+    pub fn new(units: u64) -> Option<Price>
         ensures { result ≡ price_made units }
     {
         if (Price::LEAST_UNITS <= units) & (units <= Price::MOST_UNITS) {
-            MadePrice::Made(Price { units })
+            Some(Price { units })
         } else {
-            MadePrice::OutOfRange
+            None
         }
     }
 }
 
 // A rate, in basis points: 10,000 is 100 per cent.
-#[derive(Clone, Copy)]
+#[derive(Clone, Copy, Default)]
 pub struct Rate {
     pub bp: u64,
-}
-
-#[derive(Clone, Copy)]
-pub enum MadeRate {
-    Made(Rate),
-    OutOfRange,
 }
 
 impl Rate {
     pub const MOST_BP: u64 = 10_000;
 
-    pub fn new(bp: u64) -> MadeRate
+    pub fn new(bp: u64) -> Option<Rate>
         ensures { result ≡ rate_made bp }
     {
         if bp <= Rate::MOST_BP {
-            MadeRate::Made(Rate { bp })
+            Some(Rate { bp })
         } else {
-            MadeRate::OutOfRange
+            None
         }
     }
 
@@ -110,22 +99,16 @@ pub struct Limit {
     pub units: u64,
 }
 
-#[derive(Clone, Copy)]
-pub enum MadeLimit {
-    Made(Limit),
-    OutOfRange,
-}
-
 impl Limit {
     pub const MOST_UNITS: u64 = 2_020_000_000_000;
 
-    pub fn new(units: u64) -> MadeLimit
+    pub fn new(units: u64) -> Option<Limit>
         ensures { result ≡ limit_made units }
     {
         if units <= Limit::MOST_UNITS {
-            MadeLimit::Made(Limit { units })
+            Some(Limit { units })
         } else {
-            MadeLimit::OutOfRange
+            None
         }
     }
 
@@ -140,7 +123,7 @@ impl Limit {
 
 // The tentative rate (7.1), in basis points, and the days since it changed. It is no `Rate`: no maximum holds it,
 // and it runs as far as the multiplier and the volatility take it (W-208).
-#[derive(Clone, Copy)]
+#[derive(Clone, Copy, Default)]
 pub struct Tentative {
     pub bp: u64, // bp; of a share 0 to the least multiple of h at or above 100,000
     pub age: u64, // trading days, 0 to 250
@@ -161,7 +144,7 @@ pub struct Model {
 }
 
 // What a security is admitted with, by the names of document 01's table.
-#[derive(Clone, Copy)]
+#[derive(Clone, Copy, Default)]
 pub struct Statics {
     pub lot: u64, // pieces, 1 to 100
     pub h: u64, // bp, 1 to 1,000
@@ -226,36 +209,6 @@ impl Statics {
     pub const COUNT: usize = 26;
 
     pub const FLAGS: usize = 4;
-
-    // Those of a blank record: every figure 0, every flag no.
-    pub const NONE: Statics = Statics {
-        lot: 0,
-        h: 0,
-        q: 0,
-        aup: 0,
-        adown: 0,
-        wait: 0,
-        rh1: 0,
-        rh2: 0,
-        rh3: 0,
-        liq: 0,
-        min1: 0,
-        min2: 0,
-        min3: 0,
-        smax: 0,
-        xpr: 0,
-        shift: 0,
-        pchmax: 0,
-        pclmax: 0,
-        w: 0,
-        u: 0,
-        monitoring: false,
-        ewma: false,
-        uevening: 0,
-        autochange: false,
-        eveningmax: 0,
-        useexternal: false,
-    };
 }
 
 // The statics as they are given, in the order of the table (specs/Ranges.antt): each has the unit and the range of the
@@ -352,14 +305,16 @@ impl GivenStatics {
     };
 }
 
-// "A record has a standing: admitted only, or live with its day number." Either holds the last day.
+// "A record has a standing: admitted only, or live with its day number." Either holds the last day. The words are the
+// paper's, and neither is an error; so it is no `Result`.
 #[derive(Clone, Copy)]
 pub enum Standing {
     Admitted(u64), // a day number, 0 to 10^6
     Live(u64), // a day number, 0 to 10^6
 }
 
-// "A record carries its session: main, or evening with the evening moves made" (W-210).
+// "A record carries its session: main, or evening with the evening moves made" (W-210). An `Option` of the moves would
+// not say that none is the main session.
 #[derive(Clone, Copy)]
 pub enum Session {
     Main,
@@ -382,7 +337,7 @@ pub enum Notice {
 }
 
 // The outside bid and ask that a record keeps; 0 is none.
-#[derive(Clone, Copy)]
+#[derive(Clone, Copy, Default)]
 pub struct External {
     pub bid: u64, // units, 0 to 10^10
     pub ask: u64, // units, 0 to 10^10
@@ -398,48 +353,47 @@ pub enum Way {
 }
 
 // A lower and an upper limit: a level's range, or a term's band. A bond's are in hundredths of a per cent (W-206).
-#[derive(Clone, Copy)]
+#[derive(Clone, Copy, Default)]
 pub struct Limits {
     pub lower: u64, // of a share units, 0 to 2·10^12 + 2·10^10, on the grid
     pub upper: u64, // of a share units, 0 to 2·10^12 + 2·10^10, on the grid
 }
 
-#[derive(Clone, Copy)]
+#[derive(Clone, Copy, PartialEq, Eq)]
 pub enum Side {
     Upper,
     Lower,
 }
 
-// "A move names a side, 0 upper or 1 lower."
-pub fn side_of(side: u64) -> Side
-    ensures { result ≡ side_of side }
-{
-    if side == 0 { Side::Upper } else { Side::Lower }
+// "A move names a side, 0 upper or 1 lower." Another number is refused (6) before it is asked for its side.
+impl From<u64> for Side {
+    ghost from_gives = { λ number side. side ≡ side_of number };
+
+    fn from(number: u64) -> Side {
+        if number == 0 {
+            Side::Upper
+        } else {
+            Side::Lower
+        }
+    }
 }
 
-// A side is near since a second, or not near.
-#[derive(Clone, Copy)]
-pub enum Near {
-    Not,
-    Since(u64), // seconds of the day, 0 to 86,399
-}
-
-// The near seconds of one term.
-#[derive(Clone, Copy)]
+// The near seconds of one term: of each side the second since which it is near, where it is.
+#[derive(Clone, Copy, Default)]
 pub struct NearSeconds {
-    pub top: Near,
-    pub bottom: Near,
+    pub top: Option<u64>, // seconds of the day, 0 to 86,399
+    pub bottom: Option<u64>, // seconds of the day, 0 to 86,399
 }
 
 // The moves of each side since the evaluation: the c of document 01.
-#[derive(Clone, Copy)]
+#[derive(Clone, Copy, Default)]
 pub struct Moves {
     pub upper: u64, // moves, 0 to 50
     pub lower: u64, // moves, 0 to 50
 }
 
 // A term's days k and its repo band RRcL ≤ RRcH.
-#[derive(Clone, Copy)]
+#[derive(Clone, Copy, Default)]
 pub struct Term {
     pub k: u64, // days, 0 to 30
     pub low: i64, // bp, -9,999 to high
@@ -471,7 +425,9 @@ pub struct Figures {
     pub rates: [Rate; Record::LEVELS],
 }
 
-// One security. The slot is empty where id is 0. Of the two latest evaluations p1 is the later.
+// One security. The slot is empty where id is 0. Of the two latest evaluations p1 is the later. A level's rate and its
+// range, and a term with its band and its near seconds, stand in arrays of their own: each call writes some of them
+// whole, and what `specs/` says of a record goes by these fields.
 #[derive(Clone, Copy)]
 pub struct Record {
     pub id: u64, // 1 to 10^9, or 0
@@ -597,7 +553,7 @@ impl Quote {
 }
 
 // "Numbers a member may see", by name; `number` gives the number: 0 to 13 are document 01's, later ones document 02's.
-#[derive(Clone, Copy)]
+#[derive(Clone, Copy, PartialEq, Eq)]
 pub enum Verdict {
     Done,
     NoSuchId,
@@ -630,45 +586,18 @@ impl Verdict {
     pub fn number(self) -> u64
         ensures { result ≡ number_of self }
     {
-        let verdict = self;
-        match verdict {
-            Verdict::Done => 0,
-            Verdict::NoSuchId => 1,
-            Verdict::AlreadyAdmitted => 2,
-            Verdict::NoEmptySlot => 3,
-            Verdict::AdmissionOutOfRange => 4,
-            Verdict::DayNotAfter => 5,
-            Verdict::OutOfRange => 6,
-            Verdict::PriceOutOfRange => 7,
-            Verdict::MoveTooLarge => 8,
-            Verdict::BandCrossed => 9,
-            Verdict::NotLive => 10,
-            Verdict::NotMonitored => 11,
-            Verdict::MovesUsedUp => 12,
-            Verdict::SecondEarlier => 13,
-            Verdict::NotAscending => 14,
-            Verdict::BadLine => 15,
-            Verdict::RowCrossed => 16,
-            Verdict::NoFaceValue => 17,
-            Verdict::NoEveningMove => 18,
-            Verdict::OpenedTwice => 19,
-            Verdict::BadFloat => 20,
-            Verdict::CutShort => 21,
-            Verdict::WrongLength => 22,
-            Verdict::FieldOutOfRange => 23,
-            Verdict::NoRoom => 24,
-        }
+        self as u64
     }
 
     pub fn is_done(self) -> bool
         ensures { result ≡ is_done self }
     {
-        let verdict = self;
-        verdict.number() == 0
+        self == Verdict::Done
     }
 }
 
-// What a call answers. A refusal has its verdict and every figure 0, flags no, nothing near, admitted only.
+// What a call answers. A refusal has its verdict and every figure 0, flags no, nothing near, admitted only: `left` of
+// `Demand1` (demands/specs) speaks of those zeros, so it is no `Result`.
 #[derive(Clone, Copy)]
 pub struct Answer {
     pub verdict: Verdict,
@@ -748,7 +677,8 @@ pub struct WorkedBand {
 }
 
 // What the interest side answers: the pair, how many key maturities there are, and the figures of each; zeros past the
-// last. A refusal has its verdict and every figure 0.
+// last. A refusal has its verdict and every figure 0: `interest_zero` of `Demand1Beside` (demands/specs) speaks of
+// those zeros, so it is no `Result`.
 #[derive(Clone, Copy)]
 pub struct InterestAnswer {
     pub pair: WorkedBand,
@@ -763,7 +693,8 @@ pub struct RepoLimits {
     pub high: i64, // bp
 }
 
-// Where a term's repo band comes from: it stands as given, or a pair of terms was worked out.
+// Where a term's repo band comes from: it stands as given, or a pair of terms was worked out. Neither is an error, so
+// it is no `Result`.
 #[derive(Clone, Copy)]
 pub enum RepoBand {
     AsGiven(RepoLimits),

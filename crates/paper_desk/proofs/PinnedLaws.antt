@@ -5,7 +5,7 @@ use mathlib.Core.Path.{◌≡◌, refl, sym, ◌∙◌, ap}
 use mathlib.Core.Logic.{◌≢◌}
 use mathlib.Core.Bool.{Bool, true, false, not, ◌&&◌, and-false}
 use mathlib.Core.List.{List, [], ◌∷◌, map}
-use mathlib.Core.Option.{Option, none, some}
+use Rattle.std.specs.declared.option.Option.TheVariants.{None, Some}
 use Prim.Native.Nat.{ℕ, zero, suc, ◌+◌, ◌≤◌, ◌<◌}
 use native.Mathlib.Omega.{arith}
 use lib.Dec.{leb, eqb}
@@ -18,9 +18,8 @@ use Rattle.paper.specs.declared.Session.TheVariants.{Main, Evening}
 use Rattle.paper.specs.declared.Side.{Side}
 use Rattle.paper.specs.declared.Side.TheVariants.{Upper, Lower}
 use Rattle.paper.specs.declared.Limits.{Limits}
-use Rattle.paper.specs.declared.Near.{Near}
+use Rattle.std.specs.declared.option.Option.{Option}
 use Rattle.paper.specs.declared.External.{External}
-use Rattle.paper.specs.declared.Near.TheVariants.{Not, Since}
 use Rattle.paper.specs.declared.Admission.{Admission}
 use Rattle.paper.specs.declared.Day.{Day}
 use Rattle.paper.specs.declared.Quote.{Quote}
@@ -67,29 +66,29 @@ unfolding is_near
 missing_not_near side w x = refl
 
 -- "A near side keeps the second at which it became near"
-pub near_begins : (second : ℕ) → near_after true Not second ≡ Since second
+pub near_begins : (second : ℕ) → near_after true None second ≡ Some second
 unfolding near_after kept_since
 near_begins second = refl
 
-pub near_kept : (earlier second : ℕ) → near_after true (Since earlier) second ≡ Since earlier
+pub near_kept : (earlier second : ℕ) → near_after true (Some earlier) second ≡ Some earlier
 unfolding near_after kept_since
 near_kept earlier second = refl
 
 -- "a quote that isn't near clears it"
-pub near_cleared_lem : (old : Near) (second : ℕ) → near_after false old second ≡ Not
+pub near_cleared_lem : (old : Option ℕ) (second : ℕ) → near_after false old second ≡ None
 unfolding near_after
 near_cleared_lem old second = refl
 
 -- "near, and at least u seconds since that second"
-pub alert_from_u : (u since second : ℕ) → since + u ≤ second → alert u (Since since) second ≡ true
+pub alert_from_u : (u since second : ℕ) → since + u ≤ second → alert u (Some since) second ≡ true
 unfolding alert
 alert_from_u u since second l = le-leb (since + u) second l
 
-pub no_alert_before_u : (u since second : ℕ) → second < since + u → alert u (Since since) second ≡ false
+pub no_alert_before_u : (u since second : ℕ) → second < since + u → alert u (Some since) second ≡ false
 unfolding alert
 no_alert_before_u u since second l = lt-leb (since + u) second l
 
-pub no_alert_unless_near : (u second : ℕ) → alert u Not second ≡ false
+pub no_alert_unless_near : (u second : ℕ) → alert u None second ≡ false
 unfolding alert
 no_alert_unless_near u second = refl
 
@@ -189,7 +188,7 @@ move_leaves_range r Lower i l = ap (limit_on Upper) (range_after_lem r Lower i l
 
 -- "It clears that side's near seconds in all terms."
 pub move_clears : (r : Record) (side : Side) (k : ℕ) → k < 3
-    → near_second_on side (get_or (moved r side).near k not_near) ≡ Not
+    → near_second_on side (get_or (moved r side).near k not_near) ≡ None
 unfolding near_cleared
 move_clears r Upper k l = ap (near_second_on Upper) (near_after_lem r Upper k l)
 move_clears r Lower k l = ap (near_second_on Lower) (near_after_lem r Lower k l)
@@ -283,8 +282,8 @@ pub receipt_is_one_call : (a : Admission) (id : ℕ) (d : Day) (rows : List ℤ)
 receipt_is_one_call a id d rows q side x = refl
 
 unreceived : (o : Option Receipt) (kept : External) → is_received o ≡ false → kept_then o kept ≡ kept
-unreceived none kept s = refl
-unreceived (some told) kept s = absurd (not_true_and_false true refl s)
+unreceived None kept s = refl
+unreceived (Some told) kept s = absurd (not_true_and_false true refl s)
 
 -- and no call on a record but a receipt changes the pair, accepted or refused
 pub pair_left : (c : Call) (t : List Record) → is_admission c ≡ false → is_receipt c ≡ false

@@ -2,7 +2,8 @@
 use mathlib.Core.Path.{◌≡◌, refl}
 use mathlib.Core.Bool.{true, not}
 use mathlib.Core.List.{List}
-use mathlib.Core.Option.{Option, none, some}
+use Rattle.std.specs.declared.option.Option.{Option}
+use Rattle.std.specs.declared.option.Option.TheVariants.{None, Some}
 use lib.Dec.{eqb}
 use lib.IntN.{ℤ}
 use Rattle.paper.specs.declared.Record.{Record}
@@ -17,8 +18,8 @@ use Rattle.paper_desk.specs.Sequences.{kept_then}
 
 -- nothing but an evaluation evaluates a day
 abbrev pub OnlyEvaluation : Ask → Option (Day × List ℤ) → Type 0
-OnlyEvaluation x none = Unit {0}
-OnlyEvaluation x (some (d, rows)) = x ≡ evaluating d rows
+OnlyEvaluation x None = Unit {0}
+OnlyEvaluation x (Some (d, rows)) = x ≡ evaluating d rows
 
 pub record RuleHolds (x : Ask) : Type 0 where
   -- behind 1 every check refuses, and by another number

@@ -5,8 +5,8 @@ use Rattle.std.specs.Int.Signed.{lt_z}
 use Rattle.paper.specs.declared.Side.{Side}
 use Rattle.paper.specs.declared.Side.TheVariants.{Upper, Lower}
 use Rattle.paper.specs.declared.Limits.{Limits}
-use Rattle.paper.specs.declared.Near.{Near}
-use Rattle.paper.specs.declared.Near.TheVariants.{Not, Since}
+use Rattle.std.specs.declared.option.Option.{Option}
+use Rattle.std.specs.declared.option.Option.TheVariants.{None, Some}
 use Rattle.paper.specs.declared.NearSeconds.{NearSeconds}
 use Rattle.paper.specs.Lists.{pick}
 use Rattle.paper.specs.Numbers.{one_in_ten_thousandths}
@@ -22,20 +22,20 @@ is_near side w x price =
     ltb 0 price && lt_z (pos one_in_ten_thousandths *ℤ distance side x price) (pos w *ℤ sub_ℕ x.upper x.lower)
 
 -- "A near side keeps the second at which it became near"
-unfoldable pub kept_since : Near → (second : ℕ) → Near
-kept_since Not second = Since second
-kept_since (Since earlier) second = Since earlier
+unfoldable pub kept_since : Option ℕ → (second : ℕ) → Option ℕ
+kept_since None second = Some second
+kept_since (Some earlier) second = Some earlier
 
 -- "a quote that isn't near clears it"
-unfoldable pub near_after : (near : Bool) → Near → (second : ℕ) → Near
-near_after near old second = pick near (kept_since old second) Not
+unfoldable pub near_after : (near : Bool) → Option ℕ → (second : ℕ) → Option ℕ
+near_after near old second = pick near (kept_since old second) None
 
 -- "near, and at least u seconds since that second"
-unfoldable pub alert : (u : ℕ) → Near → (second : ℕ) → Bool
-alert u Not second = false
-alert u (Since since) second = leb (since + u) second
+unfoldable pub alert : (u : ℕ) → Option ℕ → (second : ℕ) → Bool
+alert u None second = false
+alert u (Some since) second = leb (since + u) second
 
 -- "It clears that side's near seconds": of one term
 unfoldable pub near_cleared : Side → NearSeconds → NearSeconds
-near_cleared Upper n = record { top = Not; bottom = n.bottom }
-near_cleared Lower n = record { top = n.top; bottom = Not }
+near_cleared Upper n = record { top = None; bottom = n.bottom }
+near_cleared Lower n = record { top = n.top; bottom = None }

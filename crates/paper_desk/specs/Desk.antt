@@ -1,7 +1,8 @@
 -- Document 01, "What the desk covers" and "Numbers a member may see": the calls over the table, and sequences of
 -- them.
 use Rattle.std.specs.Prelude.{Bool, true, false, not, ◌&&◌, List, [], ◌∷◌, ℕ, suc, leb, ltb, eqb, length, get_or, set, ℤ}
-use Rattle.std.proofs.Math.Option.{Option, none, some}
+use Rattle.std.specs.declared.option.Option.{Option}
+use Rattle.std.specs.declared.option.Option.TheVariants.{None, Some}
 use Rattle.paper.specs.declared.Statics.{Statics}
 use Rattle.paper.specs.declared.Standing.TheVariants.{Admitted, Live}
 use Rattle.paper.specs.declared.Session.{Session}
@@ -399,24 +400,24 @@ rule_of (evaluating d rows) =
       checks = λ r. evaluating_checks r d rows;
       made = λ r. evaluated r d rows;
       reply = the_record;
-      evaluates = some (d, rows);
-      moves = none;
-      quotes = none;
+      evaluates = Some (d, rows);
+      moves = None;
+      quotes = None;
       clears = λ side. true;
       session = λ x. Main;
-      receives = none;
+      receives = None;
     }
 rule_of (quoting q) =
     record {
       checks = λ r. quoting_checks r q;
       made = λ r. quoted r q;
       reply = the_alerts q;
-      evaluates = none;
-      moves = none;
-      quotes = some q;
+      evaluates = None;
+      moves = None;
+      quotes = Some q;
       clears = λ side. false;
       session = λ x. x;
-      receives = none;
+      receives = None;
     }
 -- "It clears that side's near seconds in all terms."
 rule_of (moving side) =
@@ -424,12 +425,12 @@ rule_of (moving side) =
       checks = λ r. moving_checks r side;
       made = λ r. moved r (side_of side);
       reply = the_record;
-      evaluates = none;
-      moves = some (side_of side);
-      quotes = none;
+      evaluates = None;
+      moves = Some (side_of side);
+      quotes = None;
       clears = same_side (side_of side);
       session = session_moved;
-      receives = none;
+      receives = None;
     }
 -- "read 1"; a read leaves everything
 rule_of reading =
@@ -437,12 +438,12 @@ rule_of reading =
       checks = λ r. [];
       made = λ r. r;
       reply = the_record;
-      evaluates = none;
-      moves = none;
-      quotes = none;
+      evaluates = None;
+      moves = None;
+      quotes = None;
       clears = λ side. false;
       session = λ x. x;
-      receives = none;
+      receives = None;
     }
 -- W-210: "Opening the evening clears the near seconds and keeps c"
 rule_of opening =
@@ -450,24 +451,24 @@ rule_of opening =
       checks = λ r. opening_checks r;
       made = λ r. evening_opened r;
       reply = the_record;
-      evaluates = none;
-      moves = none;
-      quotes = none;
+      evaluates = None;
+      moves = None;
+      quotes = None;
       clears = λ side. true;
       session = λ x. Evening 0;
-      receives = none;
+      receives = None;
     }
 rule_of (receiving x) =
     record {
       checks = λ r. receiving_checks x;
       made = λ r. received r x;
       reply = the_record;
-      evaluates = none;
-      moves = none;
-      quotes = none;
+      evaluates = None;
+      moves = None;
+      quotes = None;
       clears = λ side. false;
       session = λ x. x;
-      receives = some x;
+      receives = Some x;
     }
 
 -- all the checks of an ask, of an id that is there or not, and of its record

@@ -1,6 +1,7 @@
 -- Demand 3: the volatility worked out again as an exact fraction under the root.
 use Rattle.std.specs.Prelude.{◌≡◌, ◌⊎◌, List, [], ◌∷◌, ℕ, suc, ◌+◌, ◌-◌, ◌*◌, ◌≤◌, ◌<◌, ℤ}
-use Rattle.std.proofs.Math.Option.{Option, none, some}
+use Rattle.std.specs.declared.option.Option.{Option}
+use Rattle.std.specs.declared.option.Option.TheVariants.{None, Some}
 use Rattle.paper.specs.declared.Model.{Model}
 use Rattle.paper.specs.declared.Admission.{Admission}
 use Rattle.paper.specs.declared.Day.{Day}
@@ -50,8 +51,8 @@ pub data CarriedOn : (n s : ℕ) → Quotient → Type 0 where
 -- the exact square after one ask more, from the square x before it, what was carried before it and the evaluation p after
 -- it: what is no evaluation carries nothing on
 abbrev pub square_then : Admission → Option (Day × List ℤ) → (x : Quotient) → (before : Carries) → (p : ℕ) → Quotient
-square_then a none x before p = x
-square_then a (some (d, rows)) x before p =
+square_then a None x before p = x
+square_then a (Some (d, rows)) x before p =
     next_square a.given.q x (exact_move p before.p1 before.p2)
     (choice_of (model_of (statics_of a.given)) d.b (move_of p before.p1 before.p2)
     (millionths_in_bp * rate_at before.rates 0) before.s)

@@ -1,7 +1,8 @@
 -- Document 02, W-211: what is received of the outside source, and the pair that a record keeps after it.
 use Rattle.std.specs.Prelude.{Bool, true, false, ◌||◌, ℕ}
-use Rattle.paper.specs.declared.MadePrice.{MadePrice}
-use Rattle.paper.specs.declared.MadePrice.TheVariants.{Made, OutOfRange}
+use Rattle.std.specs.declared.option.Option.{Option}
+use Rattle.std.specs.declared.option.Option.TheVariants.{None, Some}
+use Rattle.paper.specs.declared.Price.{Price}
 use Rattle.paper.specs.declared.Outside.{Outside}
 use Rattle.paper.specs.declared.Notice.{Notice}
 use Rattle.paper.specs.declared.Notice.TheVariants.{Bid, Ask, Withdrawal}
@@ -17,9 +18,9 @@ pub data Receipt : Type 0 where
 -- ---- 20
 
 -- "a float that isn't finite, isn't above zero, or rounds to 0 or above 10^10 units": it has no price
-unfoldable pub has_none : MadePrice → Bool
-has_none (Made price) = false
-has_none OutOfRange = true
+unfoldable pub has_none : Option Price → Bool
+has_none (Some price) = false
+has_none None = true
 
 -- "20 .. on receipt": one bad float of two refuses both
 unfoldable pub is_bad : Receipt → Bool
@@ -31,9 +32,9 @@ is_bad (notice Withdrawal) = false
 -- ---- the kept pair
 
 -- the units of a price, 0 where there is none
-unfoldable pub units_made : MadePrice → ℕ
-units_made (Made price) = price.units
-units_made OutOfRange = 0
+unfoldable pub units_made : Option Price → ℕ
+units_made (Some price) = price.units
+units_made None = 0
 
 -- "Both sent together replace the kept pair, a notice changes one side, a withdrawal clears both"
 unfoldable pub kept_after : External → Receipt → External

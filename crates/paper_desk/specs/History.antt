@@ -1,6 +1,7 @@
 -- What happened to one security in a sequence of calls on a fresh table.
 use Rattle.std.specs.Prelude.{◌≡◌, Bool, true, false, ◌&&◌, List, [], ◌∷◌, ℕ, suc, eqb, ℤ, length}
-use Rattle.std.proofs.Math.Option.{Option, none, some}
+use Rattle.std.specs.declared.option.Option.{Option}
+use Rattle.std.specs.declared.option.Option.TheVariants.{None, Some}
 use Rattle.paper.specs.declared.Record.{Record}
 use Rattle.paper.specs.declared.Admission.{Admission}
 use Rattle.paper.specs.declared.Day.{Day}
@@ -54,8 +55,8 @@ is_admission (about id x) = false
 -- ---- the evaluations among what was asked
 
 abbrev pub is_one : Option (Day × List ℤ) → Bool
-is_one none = false
-is_one (some dayAndRows) = true
+is_one None = false
+is_one (Some dayAndRows) = true
 
 abbrev pub is_evaluation : Ask → Bool
 is_evaluation x = is_one (rule_of x).evaluates

@@ -5,8 +5,8 @@ use Rattle.std.specs.Prelude.{◌≡◌, refl, List, [], ◌∷◌, ◌++◌, ma
 use Rattle.paper.specs.declared.Side.{Side}
 use Rattle.paper.specs.declared.Side.TheVariants.{Upper, Lower}
 use Rattle.paper.specs.declared.Limits.{Limits}
-use Rattle.paper.specs.declared.Near.{Near}
-use Rattle.paper.specs.declared.Near.TheVariants.{Not, Since}
+use Rattle.std.specs.declared.option.Option.{Option}
+use Rattle.std.specs.declared.option.Option.TheVariants.{None, Some}
 use Rattle.paper.specs.declared.NearSeconds.{NearSeconds}
 use Rattle.paper.specs.declared.Record.{Record}
 use Rattle.paper.specs.declared.Answer.{Answer}
@@ -147,9 +147,9 @@ nearness_are = refl
 -- ---- what a move and an evaluation leave
 
 -- 0 where it is not near, one more than the second otherwise
-near_number : Near → ℕ
-near_number Not = 0
-near_number (Since second) = suc second
+near_number : Option ℕ → ℕ
+near_number None = 0
+near_number (Some second) = suc second
 
 -- the upper and the lower limits of the bands and of the ranges; the moves of each side; the near seconds at the top
 -- and at the bottom; the last quote second

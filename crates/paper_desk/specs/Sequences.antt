@@ -2,7 +2,7 @@
 -- prices, and its accepted quotes, moves and openings of the evening since the last evaluation. What each ask leaves in a
 -- history stands in its rule (Desk).
 use Rattle.std.specs.Prelude.{Bool, List, [], ◌∷◌, ℕ, ◌+◌, ◌-◌, ◌*◌, eqb, ℤ}
-use Rattle.std.proofs.Math.Option.{Option, none, some}
+use Rattle.std.specs.declared.option.Option.TheVariants.{None, Some}
 use Rattle.paper.specs.declared.Rate.{Rate}
 use Rattle.paper.specs.declared.Statics.{Statics}
 use Rattle.paper.specs.declared.Tentative.{Tentative}
@@ -15,8 +15,7 @@ use Rattle.paper.specs.declared.Side.{Side}
 use Rattle.paper.specs.declared.Side.TheVariants.{Upper, Lower}
 use Rattle.paper.specs.declared.Moves.{Moves}
 use Rattle.paper.specs.declared.Limits.{Limits}
-use Rattle.paper.specs.declared.Near.{Near}
-use Rattle.paper.specs.declared.Near.TheVariants.{Not, Since}
+use Rattle.std.specs.declared.option.Option.{Option}
 use Rattle.paper.specs.declared.NearSeconds.{NearSeconds}
 use Rattle.paper.specs.declared.Term.{Term}
 use Rattle.paper.specs.declared.Admission.{Admission}
@@ -59,8 +58,8 @@ carries_first a =
 
 -- the pair that is kept: none at admission; a receipt changes it, and whatever else is asked leaves it
 abbrev pub kept_then : Option Receipt → External → External
-kept_then none kept = kept
-kept_then (some told) kept = kept_after kept told
+kept_then None kept = kept
+kept_then (Some told) kept = kept_after kept told
 
 unfoldable pub external_now : List Ask → External
 external_now [] = no_external
@@ -79,8 +78,8 @@ carries_next st d rows used x =
 
 -- what is no evaluation carries nothing on
 abbrev pub carries_then : Statics → Option (Day × List ℤ) → (kept : External) → Carries → Carries
-carries_then st none kept x = x
-carries_then st (some (d, rows)) kept x = carries_next st d rows (used_pair st kept) x
+carries_then st None kept x = x
+carries_then st (Some (d, rows)) kept x = carries_next st d rows (used_pair st kept) x
 
 unfoldable pub carries : Admission → List Ask → Carries
 carries a [] = carries_first a
@@ -93,8 +92,8 @@ pub data LastDay : Type 0 where
   on_day : Day → LastDay
 
 abbrev pub day_then : Option (Day × List ℤ) → LastDay → LastDay
-day_then none last = last
-day_then (some (d, rows)) last = on_day d
+day_then None last = last
+day_then (Some (d, rows)) last = on_day d
 
 unfoldable pub last_evaluated : List Ask → LastDay
 last_evaluated [] = no_day
@@ -102,8 +101,8 @@ last_evaluated (x ∷ xs) = day_then (rule_of x).evaluates (last_evaluated xs)
 
 -- one more for a move of that side
 abbrev pub moves_then : Option Side → Side → (count : ℕ) → ℕ
-moves_then none side c = c
-moves_then (some x) side c = pick (same_side x side) (c + 1) c
+moves_then None side c = c
+moves_then (Some x) side c = pick (same_side x side) (c + 1) c
 
 -- "c the moves of that side since the evaluation"; W-210: the opening "keeps c"
 unfoldable pub moves_since : Side → List Ask → ℕ
@@ -160,8 +159,8 @@ near_in a es side q = is_near side a.given.w (band_now a es (last_evaluated es) 
 
 -- a quote of the term goes on with a side's near seconds in it, or breaks them off. "One quote touches one term only."
 abbrev pub seconds_then : Admission → List Ask → Side → (term : ℕ) → Option Quote → (seconds : List ℕ) → List ℕ
-seconds_then a xs side k none seconds = seconds
-seconds_then a xs side k (some q) seconds =
+seconds_then a xs side k None seconds = seconds
+seconds_then a xs side k (Some q) seconds =
     pick (eqb q.term k) (pick (near_in a xs side q) (q.second ∷ seconds) []) seconds
 
 -- the seconds of a side's near quotes in a term, unbroken up to now, the latest first. They break off at "a quote that
@@ -173,20 +172,20 @@ near_quotes a side k (x ∷ xs) =
     pick ((rule_of x).clears side) [] (seconds_then a xs side k (rule_of x).quotes (near_quotes a side k xs))
 
 -- "A near side keeps the second at which it became near": that of the first of them
-unfoldable pub first_of_them : (seconds : List ℕ) → Near
-first_of_them [] = Not
-first_of_them (second ∷ []) = Since second
+unfoldable pub first_of_them : (seconds : List ℕ) → Option ℕ
+first_of_them [] = None
+first_of_them (second ∷ []) = Some second
 first_of_them (second ∷ earlier ∷ rest) = first_of_them (earlier ∷ rest)
 
-abbrev pub near_since : Admission → Side → (term : ℕ) → List Ask → Near
+abbrev pub near_since : Admission → Side → (term : ℕ) → List Ask → Option ℕ
 near_since a side k es = first_of_them (near_quotes a side k es)
 
 abbrev pub near_now : Admission → List Ask → (term : ℕ) → NearSeconds
 near_now a es k = record { top = near_since a Upper k es; bottom = near_since a Lower k es }
 
 abbrev pub second_then : Option Quote → (second : ℕ) → ℕ
-second_then none second = second
-second_then (some q) second = q.second
+second_then None second = second
+second_then (Some q) second = q.second
 
 -- "An evaluation clears .. the last quote second (to 0)."
 unfoldable pub last_second : List Ask → ℕ

@@ -2,12 +2,12 @@
 -- record, and which are receipts of outside prices. The laws of proofs/PinnedLaws speak of them.
 -- It may use the kinds of src/lib.rt, delta and the calls of Desk.
 use Rattle.std.specs.Prelude.{◌≡◌, Bool, true, false, ℕ, ℤ, pos}
-use Rattle.std.proofs.Math.Option.{Option, none, some}
+use Rattle.std.specs.declared.option.Option.TheVariants.{None, Some}
 use Rattle.std.specs.Int.Signed.{le_z}
 use Rattle.paper.specs.declared.Side.{Side}
 use Rattle.paper.specs.declared.Side.TheVariants.{Upper, Lower}
 use Rattle.paper.specs.declared.Limits.{Limits}
-use Rattle.paper.specs.declared.Near.{Near}
+use Rattle.std.specs.declared.option.Option.{Option}
 use Rattle.paper.specs.declared.NearSeconds.{NearSeconds}
 use Rattle.paper.specs.declared.Term.{Term}
 use Rattle.paper.specs.declared.Record.{Record}
@@ -25,7 +25,7 @@ limit_on Upper x = x.upper
 limit_on Lower x = x.lower
 
 -- the top is the upper side's, the bottom the lower's
-abbrev pub near_second_on : Side → NearSeconds → Near
+abbrev pub near_second_on : Side → NearSeconds → Option ℕ
 near_second_on Upper n = n.top
 near_second_on Lower n = n.bottom
 
@@ -55,8 +55,8 @@ shows (about id x) = shows_record (rule_of x).reply
 
 -- W-211: both prices sent together, or a notice
 abbrev pub is_received : Option Receipt → Bool
-is_received none = false
-is_received (some x) = true
+is_received None = false
+is_received (Some x) = true
 
 abbrev pub is_receipt : Call → Bool
 is_receipt (admit a) = false

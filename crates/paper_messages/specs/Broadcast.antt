@@ -1,7 +1,8 @@
 -- W-212: what a call is broadcast as, as bytes: "Kinds: 1 statics, 2 rates and ranges, 3 bands, 4 move.", and of
 -- docs/BROADCAST.md 5 reasons and 8 session.
 use Rattle.std.specs.Prelude.{List, [], ◌∷◌, ◌++◌, ℕ, ◌+◌, ◌-◌, ◌*◌, ℤ}
-use Rattle.std.proofs.Math.Option.{Option, none, some}
+use Rattle.std.specs.declared.option.Option.{Option}
+use Rattle.std.specs.declared.option.Option.TheVariants.{None, Some}
 use Rattle.paper.specs.declared.Answer.{Answer}
 use Rattle.paper.specs.declared.Day.{Day}
 use Rattle.paper.specs.declared.Side.{Side}
@@ -21,20 +22,20 @@ use Rattle.paper_messages.specs.Records.{reasons_message, session_message}
 
 -- why an evaluation is what it is, on the table before it; a call that evaluates nothing has no reasons
 abbrev pub of_day : (id : ℕ) → Option (Day × List ℤ) → List Record → Reasons
-of_day id none t = no_reasons
-of_day id (some (d, rows)) t = (why_on t id d rows).reasons
+of_day id None t = no_reasons
+of_day id (Some (d, rows)) t = (why_on t id d rows).reasons
 
 unfoldable pub reasons_before : Call → List Record → Reasons
 reasons_before (admit g) t = no_reasons
 reasons_before (about id x) t = of_day id (rule_of x).evaluates t
 
 abbrev pub of_evaluation : Option (Day × List ℤ) → Answer → Reasons → List Message
-of_evaluation none a y = []
-of_evaluation (some dayAndRows) a y = rates_message a.rec ∷ bands_message a.rec ∷ reasons_message a.rec y ∷ []
+of_evaluation None a y = []
+of_evaluation (Some dayAndRows) a y = rates_message a.rec ∷ bands_message a.rec ∷ reasons_message a.rec y ∷ []
 
 abbrev pub of_move : Option Side → Answer → List Message
-of_move none a = []
-of_move (some side) a = move_message a.rec side ∷ []
+of_move None a = []
+of_move (Some side) a = move_message a.rec side ∷ []
 
 abbrev pub of_opening : Ask → Answer → List Message
 of_opening (evaluating d rows) a = []

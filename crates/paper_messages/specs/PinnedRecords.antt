@@ -11,7 +11,7 @@ use Rattle.paper_reasons.specs.declared.ReplacementReason.TheVariants as replace
 use Rattle.paper_reasons.specs.declared.TentativeReason.TheVariants as tentative
 use Rattle.paper_reasons.specs.declared.LevelReason.{LevelReason}
 use Rattle.paper_reasons.specs.declared.LevelReason.TheVariants as level
-use Rattle.paper_reasons.specs.declared.Decided.TheVariants as decided
+use Rattle.std.specs.declared.option.Option.TheVariants.{None}
 use Rattle.paper_reasons.specs.declared.Reasons.{Reasons}
 use Rattle.paper_reasons.specs.Why.{no_reasons}
 use Rattle.paper_messages.specs.Fields.{statics_message_kind, rates_message_kind, bands_message_kind, move_message_kind}
@@ -95,7 +95,7 @@ some_reasons one two three =
       level1 = one;
       level2 = two;
       level3 = three;
-      figures = decided.None;
+      figures = None;
     }
 
 pub reasons_messages_are : (reasons_message sample (some_reasons level.Requirement level.Minimum level.Maximum)

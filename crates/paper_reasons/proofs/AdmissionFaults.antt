@@ -25,26 +25,26 @@ use Rattle.paper.proofs.StaticsFacts.{flag_in_row, statics_facts}
 use Rattle.paper_desk.specs.Desk.{stands, admit, admit_checks, checks_of, step}
 use Rattle.paper_desk.proofs.Refusals.{verdict_first, named_is_first_or_otherwise, first_is_named, none_named}
 use Rattle.paper_desk.proofs.TentativeRange.{tentative_top_high}
-use Rattle.paper_reasons.specs.declared.FieldAtFault.{FieldAtFault}
-use Rattle.paper_reasons.specs.declared.FieldAtFault.TheVariants as field
+use Rattle.std.specs.declared.option.Option.{Option}
+use Rattle.std.specs.declared.option.Option.TheVariants.{None, Some}
 use Rattle.paper_reasons.specs.AdmissionFaults.{tentative_farthest, admission_table, out_of_table, is_off, unfit}
 use Rattle.paper_reasons.specs.AdmissionFaults.{first_place, fields_at_fault, field_at_fault}
 
 -- EACH NUMBER IS NAMED EXACTLY WHERE IT IS THE FIRST AT FAULT, and none where none is
-pub field_is : (a : Admission) (x : FieldAtFault)
+pub field_is : (a : Admission) (x : Option ℕ)
     → Exactly (field_at_fault a ≡ x)
-    (FirstAt x (fields_at_fault a) ⊎ ((field.None ≡ x) × NoneApplies (fields_at_fault a)))
+    (FirstAt x (fields_at_fault a) ⊎ ((None ≡ x) × NoneApplies (fields_at_fault a)))
 unfolding field_at_fault
 field_is a x = (
-  named_is_first_or_otherwise field.None (fields_at_fault a) x,
-  ⊎_elim (first_is_named field.None (fields_at_fault a) x)
-      (λ o. none_named field.None (fields_at_fault a) o.1 ∙ o.0),
+  named_is_first_or_otherwise None (fields_at_fault a) x,
+  ⊎_elim (first_is_named None (fields_at_fault a) x)
+      (λ o. none_named None (fields_at_fault a) o.1 ∙ o.0),
 )
 
 -- ---- a number is out of the table where the table says so
 
 -- no field is at fault in the table, nor in what stands behind it
-all_in_table : (place : ℕ) (rows : List Static) (numbers : List ℕ) (behind : List (Naming FieldAtFault))
+all_in_table : (place : ℕ) (rows : List Static) (numbers : List ℕ) (behind : List (Naming (Option ℕ)))
     → NoneApplies (out_of_table place rows numbers ++ behind) → (in_table rows numbers ≡ true) × NoneApplies behind
 all_in_table place [] numbers behind n = (refl, n)
 all_in_table place (row ∷ rows) [] behind (also q rest) = absurd (not_true_and_false true refl q)
@@ -52,7 +52,7 @@ all_in_table place (row ∷ rows) (x ∷ numbers) behind (also q rest) =
     let more = all_in_table (suc place) rows numbers behind rest in
     (and_both (within row.least row.most x) (in_table rows numbers) (not-false _ q) more.0, more.1)
 
-none_in_table : (place : ℕ) (rows : List Static) (numbers : List ℕ) (behind : List (Naming FieldAtFault))
+none_in_table : (place : ℕ) (rows : List Static) (numbers : List ℕ) (behind : List (Naming (Option ℕ)))
     → in_table rows numbers ≡ true → NoneApplies behind → NoneApplies (out_of_table place rows numbers ++ behind)
 none_in_table place [] numbers behind t n = n
 none_in_table place (row ∷ rows) [] behind t n = absurd (not_true_and_false false t refl)
@@ -61,9 +61,9 @@ none_in_table place (row ∷ rows) (x ∷ numbers) behind t n =
     (none_in_table (suc place) rows numbers behind (and_right (within row.least row.most x) _ t) n)
 
 -- what is named first is a number
-module _ (behind : List (Naming FieldAtFault)) (numbered : FirstAt field.None behind → ⊥) where
+module _ (behind : List (Naming (Option ℕ))) (numbered : FirstAt None behind → ⊥) where
   never_none : (place : ℕ) (rows : List Static) (numbers : List ℕ)
-      → FirstAt field.None (out_of_table place rows numbers ++ behind) → ⊥
+      → FirstAt None (out_of_table place rows numbers ++ behind) → ⊥
   never_none place [] numbers f = numbered f
   never_none place (row ∷ rows) [] (here w q) = let z : ◌≡◌ {A = ℕ} 0 1 = cc in omega arith
   never_none place (row ∷ rows) [] (later q f) = numbered f
@@ -72,51 +72,51 @@ module _ (behind : List (Naming FieldAtFault)) (numbered : FirstAt field.None be
 
 -- where none of the table is named, all of it is in range
 pub unnamed_in_table : (place : ℕ) (rows : List Static) (numbers : List ℕ)
-    → first_named field.None (out_of_table place rows numbers) ≡ field.None → in_table rows numbers ≡ true
+    → first_named None (out_of_table place rows numbers) ≡ None → in_table rows numbers ≡ true
 unnamed_in_table place [] numbers e = refl
 unnamed_in_table place (row ∷ rows) [] e = absurd (let z : ◌≡◌ {A = ℕ} 0 1 = cc in omega arith)
 unnamed_in_table place (row ∷ rows) (x ∷ numbers) e =
     go (within row.least row.most x) e (unnamed_in_table (suc place) rows numbers)
   where
     go : (own : Bool)
-        → pick (not own) (field.Number place) (first_named field.None (out_of_table (suc place) rows numbers)) ≡ field.None
-        → (first_named field.None (out_of_table (suc place) rows numbers) ≡ field.None → in_table rows numbers ≡ true)
+        → pick (not own) (Some place) (first_named None (out_of_table (suc place) rows numbers)) ≡ None
+        → (first_named None (out_of_table (suc place) rows numbers) ≡ None → in_table rows numbers ≡ true)
         → (own && in_table rows numbers) ≡ true
     go true e rest = rest e
     go false e rest = absurd (let z : ◌≡◌ {A = ℕ} 0 1 = cc in omega arith)
 
 -- what the table names comes before what stands behind it
-pub table_before : (behind : List (Naming FieldAtFault)) (place : ℕ) (rows : List Static) (numbers : List ℕ)
-    (k : ℕ) → first_named field.None (out_of_table place rows numbers) ≡ field.Number k
-    → first_named field.None (out_of_table place rows numbers ++ behind) ≡ field.Number k
+pub table_before : (behind : List (Naming (Option ℕ))) (place : ℕ) (rows : List Static) (numbers : List ℕ)
+    (k : ℕ) → first_named None (out_of_table place rows numbers) ≡ Some k
+    → first_named None (out_of_table place rows numbers ++ behind) ≡ Some k
 table_before behind place [] numbers k e = absurd (let z : ◌≡◌ {A = ℕ} 0 1 = cc in omega arith)
 table_before behind place (row ∷ rows) [] k e = e
 table_before behind place (row ∷ rows) (x ∷ numbers) k e =
     go (not (within row.least row.most x)) e (table_before behind (suc place) rows numbers k)
   where
     go : (out : Bool)
-        → pick out (field.Number place) (first_named field.None (out_of_table (suc place) rows numbers)) ≡ field.Number k
-        → (first_named field.None (out_of_table (suc place) rows numbers) ≡ field.Number k
-        → first_named field.None (out_of_table (suc place) rows numbers ++ behind) ≡ field.Number k)
-        → pick out (field.Number place) (first_named field.None (out_of_table (suc place) rows numbers ++ behind))
-        ≡ field.Number k
+        → pick out (Some place) (first_named None (out_of_table (suc place) rows numbers)) ≡ Some k
+        → (first_named None (out_of_table (suc place) rows numbers) ≡ Some k
+        → first_named None (out_of_table (suc place) rows numbers ++ behind) ≡ Some k)
+        → pick out (Some place) (first_named None (out_of_table (suc place) rows numbers ++ behind))
+        ≡ Some k
     go true e rest = e
     go false e rest = rest e
 
-pub table_passed : (behind : List (Naming FieldAtFault)) (place : ℕ) (rows : List Static) (numbers : List ℕ)
-    → first_named field.None (out_of_table place rows numbers) ≡ field.None
-    → first_named field.None (out_of_table place rows numbers ++ behind) ≡ first_named field.None behind
+pub table_passed : (behind : List (Naming (Option ℕ))) (place : ℕ) (rows : List Static) (numbers : List ℕ)
+    → first_named None (out_of_table place rows numbers) ≡ None
+    → first_named None (out_of_table place rows numbers ++ behind) ≡ first_named None behind
 table_passed behind place [] numbers e = refl
 table_passed behind place (row ∷ rows) [] e = absurd (let z : ◌≡◌ {A = ℕ} 0 1 = cc in omega arith)
 table_passed behind place (row ∷ rows) (x ∷ numbers) e =
     go (not (within row.least row.most x)) e (table_passed behind (suc place) rows numbers)
   where
     go : (out : Bool)
-        → pick out (field.Number place) (first_named field.None (out_of_table (suc place) rows numbers)) ≡ field.None
-        → (first_named field.None (out_of_table (suc place) rows numbers) ≡ field.None
-        → first_named field.None (out_of_table (suc place) rows numbers ++ behind) ≡ first_named field.None behind)
-        → pick out (field.Number place) (first_named field.None (out_of_table (suc place) rows numbers ++ behind))
-        ≡ first_named field.None behind
+        → pick out (Some place) (first_named None (out_of_table (suc place) rows numbers)) ≡ None
+        → (first_named None (out_of_table (suc place) rows numbers) ≡ None
+        → first_named None (out_of_table (suc place) rows numbers ++ behind) ≡ first_named None behind)
+        → pick out (Some place) (first_named None (out_of_table (suc place) rows numbers ++ behind))
+        ≡ first_named None behind
     go true e rest = absurd (let z : ◌≡◌ {A = ℕ} 0 1 = cc in omega arith)
     go false e rest = rest e
 
@@ -364,18 +364,18 @@ module _ (a : Admission) where
       search (id, day, p1, p2, s, in_range_lem, flags, on1, on2, tentative, order, multiples, and_both) depth 20
 
   -- NO NUMBER IS NAMED EXACTLY WHERE THE ADMISSION IS IN RANGE
-  pub unnamed_exactly_valid : Exactly (field_at_fault a ≡ field.None) (valid_admission a ≡ true)
+  pub unnamed_exactly_valid : Exactly (field_at_fault a ≡ None) (valid_admission a ≡ true)
   unfolding fields_at_fault
   unnamed_exactly_valid = (
     λ e. ⊎_elim (λ f. absurd (never_none (unfit a g) numbered first_place admission_table (admission_numbers a) f))
-        (λ n. none_then_valid n.1) ((field_is a field.None).0 e),
-    λ v. (field_is a field.None).1 (inr (refl, valid_then_none a v)),
+        (λ n. none_then_valid n.1) ((field_is a None).0 e),
+    λ v. (field_is a None).1 (inr (refl, valid_then_none a v)),
   )
     where
-      no : (place : ℕ) → ◌≡◌ {A = FieldAtFault} (field.Number place) field.None → ⊥
+      no : (place : ℕ) → ◌≡◌ {A = Option ℕ} (Some place) None → ⊥
       no place e = let z : ◌≡◌ {A = ℕ} 0 1 = cc in omega arith
 
-      numbered : FirstAt field.None (unfit a g) → ⊥
+      numbered : FirstAt None (unfit a g) → ⊥
       numbered (here w q) = no 3 w
       numbered (later p (here w q)) = no 4 w
       numbered (later p (later p2 (here w q))) = no 6 w
@@ -395,7 +395,7 @@ module _ (t : List Record) (a : Admission) where
   answered = (step (admit a) t).answer.verdict
 
   -- A NUMBER IS NAMED ONLY WHERE 4 IS THE ANSWER, on every table
-  pub named_then_refused : (field_at_fault a ≡ field.None → ⊥) → answered ≡ verdict.AdmissionOutOfRange
+  pub named_then_refused : (field_at_fault a ≡ None → ⊥) → answered ≡ verdict.AdmissionOutOfRange
   unfolding checks_of admit_checks first_of
   named_then_refused n = verdict_first (admit a) t ∙ go (valid_admission a) refl
     where
@@ -405,7 +405,7 @@ module _ (t : List Record) (a : Admission) where
 
   -- SOME NUMBER IS NAMED EXACTLY WHERE 4 IS THE ANSWER on a table of 1 to 512 slots
   pub named_exactly_refused : valid_slots (length t) ≡ true
-      → Exactly (answered ≡ verdict.AdmissionOutOfRange) (field_at_fault a ≡ field.None → ⊥)
+      → Exactly (answered ≡ verdict.AdmissionOutOfRange) (field_at_fault a ≡ None → ⊥)
   unfolding checks_of admit_checks first_of
   named_exactly_refused good = (
     λ e n. behind (stands t a.id) (not (stands t 0))

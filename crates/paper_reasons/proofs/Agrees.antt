@@ -25,7 +25,8 @@ use Rattle.paper_desk.specs.Desk.{step}
 use Rattle.paper.proofs.Logic.{pick_true, pick_false}
 use Rattle.paper_desk.proofs.Refusals.{verdict_first, named_is_first_or_otherwise, first_is_named, none_named}
 use Rattle.paper_desk.proofs.PinnedLaws.{three_gives_each}
-use Rattle.paper_reasons.specs.declared.Decided.TheVariants as decided
+use Rattle.std.specs.declared.option.Option.{Option}
+use Rattle.std.specs.declared.option.Option.TheVariants.{None, Some}
 use Rattle.paper_reasons.specs.declared.Fault.{Fault}
 use Rattle.paper_reasons.specs.declared.Fault.TheVariants as fault
 use Rattle.paper_reasons.specs.declared.LevelReason.TheVariants as level
@@ -45,14 +46,14 @@ unfolding why_on why_of checks_of evaluate_checks
 number_agrees t id d rows = sym (verdict_first (evaluate id d rows) t)
 
 -- THE FAULT is named exactly where it is the first row, else term, at fault; and none where none is
-pub fault_is : (v : Verdict) (r : Record) (d : Day) (rows : List ℤ) (x : Fault)
+pub fault_is : (v : Verdict) (r : Record) (d : Day) (rows : List ℤ) (x : Option Fault)
     → Exactly (fault_of v r d rows ≡ x)
-    (FirstAt x (faults_of v r d rows) ⊎ ((fault.None ≡ x) × NoneApplies (faults_of v r d rows)))
+    (FirstAt x (faults_of v r d rows) ⊎ ((None ≡ x) × NoneApplies (faults_of v r d rows)))
 unfolding fault_of
 fault_is v r d rows x = (
-  named_is_first_or_otherwise fault.None (faults_of v r d rows) x,
-  ⊎_elim (first_is_named fault.None (faults_of v r d rows) x)
-      (λ o. none_named fault.None (faults_of v r d rows) o.1 ∙ o.0),
+  named_is_first_or_otherwise None (faults_of v r d rows) x,
+  ⊎_elim (first_is_named None (faults_of v r d rows) x)
+      (λ o. none_named None (faults_of v r d rows) o.1 ∙ o.0),
 )
 
 -- THE PRICE that an evaluation writes is, on the grid, the figure that is named, of the pair that the record uses
@@ -109,10 +110,10 @@ module _ (r : Record) (d : Day) (rows : List ℤ) (ewma : r.statics.ewma ≡ tru
 
   -- THE FIGURES that decided are those of the record before and of the one that the evaluation writes
   pub figures_agree : (reasons_of r d rows).figures
-      ≡ decided.By (figures_said r (evaluated r d rows) d (reasons_of r d rows))
+      ≡ Some (figures_said r (evaluated r d rows) d (reasons_of r d rows))
   unfolding evaluated move_on reasons_of deciding_on
   figures_agree =
-      pick_true r.statics.ewma (decided.By (deciding_on r d rows)) decided.None ewma
+      pick_true r.statics.ewma (Some (deciding_on r d rows)) None ewma
       ∙ rw (step_agrees, weight_is r.statics ewma (model_of r.statics) d.b (move_on r rows) r.s)
 
   -- s is the greater of x and y

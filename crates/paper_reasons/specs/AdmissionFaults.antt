@@ -6,8 +6,8 @@ use Rattle.paper.specs.declared.GivenStatics.{GivenStatics}
 use Rattle.paper.specs.Numbers.{price_least, price_most, volatility_most, id_most, day_most}
 use Rattle.paper.specs.Ranges.{within, grid_of, Static, ranging, statics_table, valid_tentative, admission_numbers}
 use Rattle.paper.specs.Verdicts.{Naming, first_named}
-use Rattle.paper_reasons.specs.declared.FieldAtFault.{FieldAtFault}
-use Rattle.paper_reasons.specs.declared.FieldAtFault.TheVariants as field
+use Rattle.std.specs.declared.option.Option.{Option}
+use Rattle.std.specs.declared.option.Option.TheVariants.{None, Some}
 
 -- ---- the ranges of an admission's numbers, in the order of its line (`admission_numbers` of `paper`)
 
@@ -29,11 +29,11 @@ admission_table =
 -- ---- what is at fault
 
 -- the number at a place of the line, and whether it is at fault
-abbrev pub number_at : (place : ℕ) → (at_fault : Bool) → Naming FieldAtFault
-number_at place at_fault = record { verdict = field.Number place; applies = at_fault }
+abbrev pub number_at : (place : ℕ) → (at_fault : Bool) → Naming (Option ℕ)
+number_at place at_fault = record { verdict = Some place; applies = at_fault }
 
 -- the numbers from a place on, each at fault where it is out of the range of its row, or missing
-abbrev pub out_of_table : (place : ℕ) → List Static → (numbers : List ℕ) → List (Naming FieldAtFault)
+abbrev pub out_of_table : (place : ℕ) → List Static → (numbers : List ℕ) → List (Naming (Option ℕ))
 out_of_table place [] numbers = []
 out_of_table place (row ∷ rows) [] = number_at place true ∷ []
 out_of_table place (row ∷ rows) (x ∷ numbers) =
@@ -45,7 +45,7 @@ is_off step x = not (eqb (x % step) 0)
 
 -- P1 or P2 off the grid; TENTATIVE no multiple of h, or above its top; RH2 or RH3 below the one before it; MIN1 to MIN3
 -- or SMAX no multiple of h, or below the one before it
-abbrev pub unfit : Admission → GivenStatics → List (Naming FieldAtFault)
+abbrev pub unfit : Admission → GivenStatics → List (Naming (Option ℕ))
 unfit a g =
     number_at 3 (is_off (grid_of g.lot) a.p1)
     ∷ number_at 4 (is_off (grid_of g.lot) a.p2)
@@ -62,9 +62,9 @@ unfit a g =
 abbrev pub first_place : ℕ
 first_place = 1
 
-unfoldable pub fields_at_fault : Admission → List (Naming FieldAtFault)
+unfoldable pub fields_at_fault : Admission → List (Naming (Option ℕ))
 fields_at_fault a = out_of_table first_place admission_table (admission_numbers a) ++ unfit a a.given
 
 -- THE FIRST NUMBER AT FAULT, or none
-unfoldable pub field_at_fault : Admission → FieldAtFault
-field_at_fault a = first_named field.None (fields_at_fault a)
+unfoldable pub field_at_fault : Admission → Option ℕ
+field_at_fault a = first_named None (fields_at_fault a)

@@ -8,14 +8,14 @@ use Rattle.paper.specs.Ranges.{unsigned, grid_of, Static, statics_table, statics
 use Rattle.paper.specs.Ranges.{valid_tentative}
 use Rattle.paper.specs.PinnedValues.{◌but◌, lot_at, h_at, wait_at, minima_at, monitoring_at, useexternal_at, id_at, day_at, p1_at}
 use Rattle.paper.specs.PinnedValues.{s_at, tentative_at, admission_from, z_numbers}
-use Rattle.paper_reasons.specs.declared.FieldAtFault.{FieldAtFault}
-use Rattle.paper_reasons.specs.declared.FieldAtFault.TheVariants as field
+use Rattle.std.specs.declared.option.Option.{Option}
+use Rattle.std.specs.declared.option.Option.TheVariants.{None, Some}
 use Rattle.paper_reasons.specs.AdmissionFaults.{fields_at_fault, field_at_fault}
 
 -- the place that is named, 0 where none is
-place_of : FieldAtFault → ℕ
-place_of field.None = 0
-place_of (field.Number place) = place
+place_of : Option ℕ → ℕ
+place_of None = 0
+place_of (Some place) = place
 
 -- of an admission's numbers. It opens every definition that it computes with
 named : List ℤ → ℕ

@@ -17,7 +17,8 @@ use Rattle.paper_reasons.specs.declared.TentativeReason.TheVariants as tentative
 use Rattle.paper_reasons.specs.declared.LevelReason.{LevelReason}
 use Rattle.paper_reasons.specs.declared.LevelReason.TheVariants as level
 use Rattle.paper_reasons.specs.declared.Deciding.{Deciding}
-use Rattle.paper_reasons.specs.declared.Decided.TheVariants as decided
+use Rattle.std.specs.declared.option.Option.{Option}
+use Rattle.std.specs.declared.option.Option.TheVariants.{None, Some}
 use Rattle.paper_reasons.specs.declared.Fault.{Fault}
 use Rattle.paper_reasons.specs.declared.Fault.TheVariants as fault
 use Rattle.paper_reasons.specs.declared.Reasons.{Reasons}
@@ -97,7 +98,7 @@ pub record ModelledTrue (old new : Record) (d : Day) (y : Reasons) : Type 0 wher
       (level_named y i)
   -- each figure is the one that made the record: "s is the greater" of x and y, and t makes the tentative rate with its
   -- age
-  pub figures : y.figures ≡ decided.By (figures_said old new d y)
+  pub figures : y.figures ≡ Some (figures_said old new d y)
   pub greater : new.s ≡ max (figures_said old new d y).x (figures_said old new d y).y
   pub step : new.tentative
       ≡ tentative_after old.statics.h old.statics.wait (figures_said old new d y).t old.tentative
@@ -111,7 +112,7 @@ pub record UnmodelledTrue (old new : Record) (y : Reasons) : Type 0 where
   pub tentative : y.tentative ≡ tentative.None
   pub tentative_rate_lem : new.tentative ≡ old.tentative
   pub level : (i : ℕ) → i < 3 → level_named y i ≡ level.Minimum
-  pub figures : y.figures ≡ decided.None
+  pub figures : y.figures ≡ None
 
 -- of an accepted evaluation
 pub record ReasonsTrue (old new : Record) (d : Day) (rows : List ℤ) (y : Reasons) : Type 0 where
@@ -134,7 +135,7 @@ pub record WhyTrue (t : List Record) (id : ℕ) (d : Day) (rows : List ℤ) : Ty
   pub refused : is_done (step (evaluate id d rows) t).answer.verdict ≡ false → (why_on t id d rows).reasons ≡ no_reasons
   -- "the first row, else term, at fault, or none": each is named exactly when it is the first, and none where there is
   -- none
-  pub fault : (x : Fault)
+  pub fault : (x : Option Fault)
       → Exactly ((why_on t id d rows).fault ≡ x)
       (FirstAt x (faults_of (why_on t id d rows).verdict (found t id) d rows)
-      ⊎ ((fault.None ≡ x) × NoneApplies (faults_of (why_on t id d rows).verdict (found t id) d rows)))
+      ⊎ ((None ≡ x) × NoneApplies (faults_of (why_on t id d rows).verdict (found t id) d rows)))

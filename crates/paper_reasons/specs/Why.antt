@@ -20,8 +20,8 @@ use Rattle.paper_reasons.specs.declared.TentativeReason.TheVariants as tentative
 use Rattle.paper_reasons.specs.declared.LevelReason.{LevelReason}
 use Rattle.paper_reasons.specs.declared.LevelReason.TheVariants as level
 use Rattle.paper_reasons.specs.declared.Deciding.{Deciding}
-use Rattle.paper_reasons.specs.declared.Decided.{Decided}
-use Rattle.paper_reasons.specs.declared.Decided.TheVariants as decided
+use Rattle.std.specs.declared.option.Option.{Option}
+use Rattle.std.specs.declared.option.Option.TheVariants.{None, Some}
 use Rattle.paper_reasons.specs.declared.Reasons.{Reasons}
 use Rattle.paper_reasons.specs.declared.Why.{Why}
 use Rattle.paper_reasons.specs.Reasons.{price_reason, weight_reason, replacement_reason, tentative_reason}
@@ -40,7 +40,7 @@ no_reasons =
       level1 = level.None;
       level2 = level.None;
       level3 = level.None;
-      figures = decided.None;
+      figures = None;
     }
 
 -- whether the replacement is the one chosen on a day, and the t of that day
@@ -66,8 +66,8 @@ deciding_on r d rows =
     }
 
 -- with isEWMA no, none did
-abbrev pub decided_by : Statics → Deciding → Decided
-decided_by st f = pick st.ewma (decided.By f) decided.None
+abbrev pub decided_by : Statics → Deciding → Option Deciding
+decided_by st f = pick st.ewma (Some f) None
 
 -- of the levels 1, 2, 3: the rate of level L stands at L - 1
 unfoldable pub level_on : Record → Day → (rows : List ℤ) → (level place : ℕ) → LevelReason

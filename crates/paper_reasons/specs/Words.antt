@@ -11,10 +11,11 @@ use Rattle.paper_reasons.specs.declared.TentativeReason.{TentativeReason}
 use Rattle.paper_reasons.specs.declared.TentativeReason.TheVariants as tentative
 use Rattle.paper_reasons.specs.declared.LevelReason.{LevelReason}
 use Rattle.paper_reasons.specs.declared.LevelReason.TheVariants as level
-use Rattle.paper_reasons.specs.declared.Decided.{Decided}
-use Rattle.paper_reasons.specs.declared.Decided.TheVariants as decided
+use Rattle.std.specs.declared.option.Option.{Option}
+use Rattle.std.specs.declared.option.Option.TheVariants.{None, Some}
 use Rattle.paper_reasons.specs.declared.Fault.{Fault}
 use Rattle.paper_reasons.specs.declared.Fault.TheVariants as fault
+use Rattle.paper_reasons.specs.declared.Deciding.{Deciding}
 
 -- ---- numbers
 
@@ -50,15 +51,15 @@ level_number level.Minimum = 2
 level_number level.Maximum = 3
 
 -- R S0 X Y S T, or nothing
-unfoldable pub decided_numbers : Decided → List ℕ
-decided_numbers decided.None = []
-decided_numbers (decided.By f) = f.r ∷ f.before ∷ f.x ∷ f.y ∷ f.s ∷ f.t ∷ []
+unfoldable pub decided_numbers : Option Deciding → List ℕ
+decided_numbers None = []
+decided_numbers (Some f) = f.r ∷ f.before ∷ f.x ∷ f.y ∷ f.s ∷ f.t ∷ []
 
 -- 1 and the row, 2 and the term
-unfoldable pub fault_numbers : Fault → List ℕ
-fault_numbers fault.None = 0 ∷ []
-fault_numbers (fault.Row n) = 1 ∷ n ∷ []
-fault_numbers (fault.Term k) = 2 ∷ k ∷ []
+unfoldable pub fault_numbers : Option Fault → List ℕ
+fault_numbers None = 0 ∷ []
+fault_numbers (Some (fault.Row n)) = 1 ∷ n ∷ []
+fault_numbers (Some (fault.Term k)) = 2 ∷ k ∷ []
 
 -- ---- words
 

@@ -1,5 +1,6 @@
-// W-207, "Say why": the values that a reason is said with. specs/ defines what is right; proofs/ proves it. `None` is
-// the word `none`: where there is nothing to name. It may use `paper` and `paper_desk`.
+// W-207, "Say why": the values that a reason is said with. specs/ defines what is right; proofs/ proves it. It may use
+// `paper` and `paper_desk`. A reason's `None` is the word `none`, where there is nothing to name: it is printed and
+// numbered with the others, so it is a variant, and a reason is no `Option`.
 #![tactic(auto)]
 
 use paper::Verdict;
@@ -53,7 +54,6 @@ pub enum LevelReason {
 // "the first row, else term, at fault, or none": rows count from 1, terms are 0, 1, 2.
 #[derive(Clone, Copy)]
 pub enum Fault {
-    None,
     Row(u64),
     Term(u64),
 }
@@ -69,13 +69,6 @@ pub struct Deciding {
     pub t: u64, // bp: the least step, before any wait
 }
 
-// With isEWMA no, no figure decided.
-#[derive(Clone, Copy)]
-pub enum Decided {
-    None,
-    By(Deciding),
-}
-
 // The reasons of an accepted evaluation; all `None` of a refused one.
 #[derive(Clone, Copy)]
 pub struct Reasons {
@@ -86,20 +79,14 @@ pub struct Reasons {
     pub level1: LevelReason,
     pub level2: LevelReason,
     pub level3: LevelReason,
-    pub figures: Decided,
+    pub figures: Option<Deciding>, // with isEWMA no, no figure decided
 }
 
-// Why an evaluation is answered as it is.
+// Why an evaluation is answered as it is. `WhyTrue` (specs/Truth) speaks of each part of every answer, so it is no
+// `Result`.
 #[derive(Clone, Copy)]
 pub struct Why {
     pub verdict: Verdict,
-    pub fault: Fault,
+    pub fault: Option<Fault>,
     pub reasons: Reasons,
-}
-
-// The number at fault in an admission that is refused 4, by its place in the line: the id is 1. `None` where none is.
-#[derive(Clone, Copy)]
-pub enum FieldAtFault {
-    None,
-    Number(u64),
 }

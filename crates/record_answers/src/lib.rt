@@ -7,8 +7,8 @@ ghost use Rattle.paper_desk.specs.Desk.{blank, saying, showing, alerting};
 ghost use Rattle.record_answers.specs.Effects.{holds, is_known, refused_effect, answer_of};
 
 use paper::{
-    Answer, External, Limits, Moves, Near, NearSeconds, Price, Rate, Record, Session, Standing,
-    Statics, Tentative, Term, Verdict,
+    Answer, External, Limits, Moves, NearSeconds, Price, Rate, Record, Session, Standing, Statics,
+    Tentative, Term, Verdict,
 };
 
 // What is found of an id in a table: how many slots there are, the place of the first with the id, or their number, and
@@ -44,31 +44,23 @@ pub fn blank() -> Record
     ensures { result ≡ blank }
 {
     let price = Price { units: 0 };
-    let none = Limits { lower: 0, upper: 0 };
     Record {
         id: 0,
-        statics: Statics::NONE,
+        statics: Statics::default(),
         standing: Standing::Admitted(0),
         p1: price,
         p2: price,
         s: 0,
-        tentative: Tentative { bp: 0, age: 0 },
-        rates: [Rate { bp: 0 }; Record::LEVELS],
-        ranges: [none; Record::LEVELS],
-        terms: [Term {
-            k: 0,
-            low: 0,
-            high: 0,
-        }; Record::TERMS],
-        bands: [none; Record::TERMS],
-        moves: Moves { upper: 0, lower: 0 },
-        near: [NearSeconds {
-            top: Near::Not,
-            bottom: Near::Not,
-        }; Record::TERMS],
+        tentative: Tentative::default(),
+        rates: [Rate::default(); Record::LEVELS],
+        ranges: [Limits::default(); Record::LEVELS],
+        terms: [Term::default(); Record::TERMS],
+        bands: [Limits::default(); Record::TERMS],
+        moves: Moves::default(),
+        near: [NearSeconds::default(); Record::TERMS],
         second: 0,
         session: Session::Main,
-        external: External { bid: 0, ask: 0 },
+        external: External::default(),
     }
 }
 

@@ -9,7 +9,7 @@ use native.Mathlib.Omega.{arith}
 use lib.Dec.{eqb, leb, lit≤}
 use lib.Pow.{pow-add, pow_pos, pow_mono}
 use borrow.Author.Tests.{lt-leb, lt-ltb, ne_eqb}
-use Rattle.paper.specs.declared.MadePrice.TheVariants.{Made, OutOfRange}
+use Rattle.std.specs.declared.option.Option.TheVariants.{None, Some}
 use Rattle.paper.specs.Lists.{pick}
 use Rattle.paper.specs.Numbers.{one_in_ten_thousandths, price_least, price_most}
 use Rattle.paper.specs.Roundings.{half_up}
@@ -54,11 +54,11 @@ unfolding units_of half_up
 low_units bits h =
     units_monotone (exact_value bits) (record { num = 1; den = 2 ^ 15 }) (scale_pos bits) (pow_pos 15) (low_value bits h)
 
-under_refused : (units : ℕ) → units ≤ 0 → price_made units ≡ OutOfRange
+under_refused : (units : ℕ) → units ≤ 0 → price_made units ≡ None
 unfolding price_made is_price
 under_refused units h = rw (lt-leb price_least units (omega arith)) refl
 
-pub low_refused : (bits : ℕ) → bits / leading_one < least_exponent → price_of_bits bits ≡ OutOfRange
+pub low_refused : (bits : ℕ) → bits / leading_one < least_exponent → price_of_bits bits ≡ None
 low_refused bits h =
     plus_price bits (lt-ltb (exponent bits) (exponents - 1) (omega arith)) (omega arith)
     ∙ under_refused (units_of (exact_value bits)) (low_units bits h)
@@ -90,15 +90,15 @@ high_units bits h =
     (units_monotone (record { num = 2 ^ 49; den = 1 }) (exact_value bits) (pow_pos 0) (scale_pos bits)
     (high_value bits h))
 
-over_refused : (units : ℕ) → price_most < units → price_made units ≡ OutOfRange
+over_refused : (units : ℕ) → price_most < units → price_made units ≡ None
 unfolding price_made is_price
 over_refused units h =
-    rw (lt-leb units price_most h) (second_fails (leb price_least units) (Made (record { units = units })))
+    rw (lt-leb units price_most h) (second_fails (leb price_least units) (Some (record { units = units })))
 
-pub high_refused : (bits : ℕ) → whole_exponent < bits / leading_one → price_of_bits bits ≡ OutOfRange
+pub high_refused : (bits : ℕ) → whole_exponent < bits / leading_one → price_of_bits bits ≡ None
 high_refused bits h = go (le_or_lt sign_bit bits) (is_finite bits) refl
   where
-    go : (sign_bit ≤ bits) ⊎ (bits < sign_bit) → (t : Bool) → is_finite bits ≡ t → price_of_bits bits ≡ OutOfRange
+    go : (sign_bit ≤ bits) ⊎ (bits < sign_bit) → (t : Bool) → is_finite bits ≡ t → price_of_bits bits ≡ None
     go (inl l) t f = minus_refused bits l
     go (inr l) false f = endless_refused bits f
     go (inr l) true f =

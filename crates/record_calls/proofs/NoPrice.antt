@@ -6,7 +6,7 @@ use native.Mathlib.Omega.{arith}
 use lib.Dec.{leb, eqb}
 use lib.Ieee.{Float, binary64, is_nan, to_bits}
 use borrow.Author.Tests.{leb-true, ne_eqb}
-use Rattle.paper.specs.declared.MadePrice.TheVariants.{Made, OutOfRange}
+use Rattle.std.specs.declared.option.Option.TheVariants.{None, Some}
 use Rattle.paper.specs.Lists.{pick}
 use Rattle.paper.specs.Numbers.{price_least, price_most}
 use Rattle.paper.specs.Ranges.{is_price, price_made}
@@ -22,16 +22,16 @@ none_zero x =
     by_price (is_nan x) (is_finite bits && is_above_zero bits) (units_of (exact_value bits))
   where
     by_units : (units : ℕ) (t : Bool) → (leb price_least units && leb units price_most) ≡ t
-        → has_none (pick t (Made (record { units = units })) OutOfRange)
-        ≡ eqb (units_made (pick t (Made (record { units = units })) OutOfRange)) 0
+        → has_none (pick t (Some (record { units = units })) None)
+        ≡ eqb (units_made (pick t (Some (record { units = units })) None)) 0
     by_units units true e =
         let least = leb-true price_least units (and_left (leb price_least units) (leb units price_most) e) in
         sym (ne_eqb units 0 (λ (z : units ≡ 0). omega (arith, least)))
     by_units units false e = refl
 
     by_price : (nan above : Bool) (units : ℕ)
-        → has_none (pick nan OutOfRange (pick above (price_made units) OutOfRange))
-        ≡ eqb (units_made (pick nan OutOfRange (pick above (price_made units) OutOfRange))) 0
+        → has_none (pick nan None (pick above (price_made units) None))
+        ≡ eqb (units_made (pick nan None (pick above (price_made units) None))) 0
     by_price true above units = refl
     by_price false false units = refl
     by_price false true units = by_units units (leb price_least units && leb units price_most) refl

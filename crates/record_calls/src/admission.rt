@@ -3,7 +3,7 @@
 ghost use Rattle.std.specs.Prelude.{◌≡◌};
 ghost use Rattle.record_answers.specs.Effects.{admit_effect};
 
-use paper::{Admission, MadePrice, Price, Verdict};
+use paper::{Admission, Price, Verdict};
 use record_answers::{Effect, Replied, Slot};
 
 // 4 of what else an admission gives, 2, 3 and what is written, at the two latest evaluations that it gives.
@@ -38,10 +38,10 @@ pub fn admitted(s: Slot, e: Slot, a: Admission) -> Effect
     let later = Price::new(a.p1);
     let earlier = Price::new(a.p2);
     match later {
-        MadePrice::OutOfRange => record_answers::refused(count, Verdict::AdmissionOutOfRange),
-        MadePrice::Made(p1) => match earlier {
-            MadePrice::OutOfRange => record_answers::refused(count, Verdict::AdmissionOutOfRange),
-            MadePrice::Made(p2) => admitted_at(s, e, a, p1, p2),
+        None => record_answers::refused(count, Verdict::AdmissionOutOfRange),
+        Some(p1) => match earlier {
+            None => record_answers::refused(count, Verdict::AdmissionOutOfRange),
+            Some(p2) => admitted_at(s, e, a, p1, p2),
         },
     }
 }

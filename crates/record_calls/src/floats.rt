@@ -5,7 +5,7 @@ ghost use Rattle.std.specs.Prelude.{◌≡◌};
 ghost use Rattle.paper.specs.Floats.{price_of_bits, price_of};
 
 use paper::floats::{LEADING_ONE, SCALE};
-use paper::{MadePrice, ONE_IN_TEN_THOUSANDTHS, Price};
+use paper::{ONE_IN_TEN_THOUSANDTHS, Price};
 
 // 10,000·significand can pass 64 bits. But 10,000 is 625·2^4, and 625·significand is below 2^63.
 const FACTOR: u64 = ONE_IN_TEN_THOUSANDTHS / 16;
@@ -17,15 +17,15 @@ const WHOLE_EXPONENT: u64 = SCALE - 4;
 const LEAST_EXPONENT: u64 = WHOLE_EXPONENT - 63;
 
 // The price of a float's bits. `top` is the exponent, and far above every exponent where the sign is a minus.
-fn price_of_bits(bits: u64) -> MadePrice
+fn price_of_bits(bits: u64) -> Option<Price>
     ensures { result ≡ price_of_bits bits }
 {
     let top = bits / LEADING_ONE;
     if top < LEAST_EXPONENT {
-        return MadePrice::OutOfRange;
+        return None;
     }
     if WHOLE_EXPONENT < top {
-        return MadePrice::OutOfRange;
+        return None;
     }
     let significand = LEADING_ONE + bits % LEADING_ONE;
     let units = exact::half_up(FACTOR * significand, 1 << (WHOLE_EXPONENT - top));
@@ -33,11 +33,11 @@ fn price_of_bits(bits: u64) -> MadePrice
 }
 
 // The price of a float, or that it is none (20): every float may be given.
-pub fn price_of(x: f64) -> MadePrice
+pub fn price_of(x: f64) -> Option<Price>
     ensures { result ≡ price_of x }
 {
     if x != x {
-        return MadePrice::OutOfRange;
+        return None;
     }
     price_of_bits(f64::to_bits(x))
 }

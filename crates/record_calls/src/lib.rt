@@ -17,9 +17,7 @@ ghost use Rattle.record_answers.specs.Effects.{is_known, effect_of};
 ghost use Rattle.record_calls.specs.Receipts.{Receives};
 
 use crate::floats::price_of;
-use paper::{
-    AskedAbout, External, MadePrice, Near, NearSeconds, Notice, Outside, Record, Session, Verdict,
-};
+use paper::{AskedAbout, External, NearSeconds, Notice, Outside, Record, Session, Verdict};
 use record_answers::{Effect, Slot};
 
 // W-210, the opening of the evening: 10, "19, evening opened twice, after 10". It "clears the near seconds and keeps
@@ -39,8 +37,8 @@ pub fn opened(s: Slot) -> Effect
         return record_answers::refused(count, Verdict::OpenedTwice);
     }
     let none = NearSeconds {
-        top: Near::Not,
-        bottom: Near::Not,
+        top: None,
+        bottom: None,
     };
     let near = [none; Record::TERMS];
     let external = r.external;
@@ -56,8 +54,8 @@ fn units_of(x: f64) -> u64
 {
     let made = price_of(x);
     match made {
-        MadePrice::Made(price) => price.units,
-        MadePrice::OutOfRange => 0,
+        Some(price) => price.units,
+        None => 0,
     }
 }
 

@@ -9,7 +9,7 @@ ghost use Rattle.paper_desk.specs.Desk.{Ask, the_alerts, near_on, quoted};
 ghost use Rattle.record_answers.specs.Effects.{is_known, replied_on, effect_of};
 ghost use Rattle.record_monitoring.specs.SharedChecks.{shared_checks};
 
-use paper::{NearSeconds, Quote, Record, Verdict};
+use paper::{NearSeconds, Quote, Record, Side, Verdict};
 use record_answers::{Effect, Replied, Slot};
 
 // 6, 10 and 11 behind 1, which a quote and a move have in this order: the first that applies, or done.
@@ -103,7 +103,7 @@ pub fn moved(s: Slot, side: u64) -> Effect
     if !alerts::session::move_allowed(statics, session) {
         return record_answers::refused(count, Verdict::NoEveningMove);
     }
-    let named = paper::side_of(side);
+    let named = Side::from(side);
     if limits::count_of(named, moves) == Record::MOVES_MOST {
         return record_answers::refused(count, Verdict::MovesUsedUp);
     }

@@ -15,6 +15,7 @@ use Rattle.record_evaluation.specs.declared.Working.{Working}
 use Rattle.record_answers.specs.Effects.{is_known}
 use Rattle.record_evaluation.specs.Workings.{made_with, is_made, worked_of}
 use Rattle.record_evaluation.proofs.Judging.{worked_verdict, worked_made}
+use Rattle.std.specs.declared.option.Option.{Option}
 use Rattle.paper_reasons.specs.declared.Fault.{Fault}
 use Rattle.paper_reasons.specs.declared.Reasons.{Reasons}
 use Rattle.paper_reasons.specs.Faults.{is_same, fault_of}
@@ -40,10 +41,10 @@ module _ (s : Slot) (d : Day) (rows : List ℤ) where
   unfolding is_made is_same
   bands_made e = ap (λ (x : Working). x.made.bands) (worked_made s d rows (rw e (or-true (is_done first))))
 
-  fault_is : (f : Fault) → f ≡ fault_with w.verdict d rows w.made.bands → f ≡ fault_of first s.rec d rows
+  fault_is : (f : Option Fault) → f ≡ fault_with w.verdict d rows w.made.bands → f ≡ fault_of first s.rec d rows
   fault_is f e = e ∙ rw (worked_verdict s d rows) (fault_with_lem first s.rec d rows w.made.bands bands_made)
 
-  pub why_refused : (f : Fault) → is_done w.verdict ≡ false → f ≡ fault_with w.verdict d rows w.made.bands
+  pub why_refused : (f : Option Fault) → is_done w.verdict ≡ false → f ≡ fault_with w.verdict d rows w.made.bands
       → record { verdict = w.verdict; fault = f; reasons = no_reasons } ≡ why_slot s d rows
   unfolding why_slot why_of
   why_refused f n e =
@@ -69,7 +70,7 @@ module _ (s : Slot) (d : Day) (rows : List ℤ) where
     unfolding evaluated
     reasons_said = rw made (reasons_are s.rec d rows)
 
-    pub why_accepted : (f : Fault) (y : Reasons) → f ≡ fault_with w.verdict d rows w.made.bands
+    pub why_accepted : (f : Option Fault) (y : Reasons) → f ≡ fault_with w.verdict d rows w.made.bands
         → y ≡ reasons_at s.rec d w.made.p1.units w.figures
         → record { verdict = w.verdict; fault = f; reasons = y } ≡ why_slot s d rows
     unfolding why_slot why_of

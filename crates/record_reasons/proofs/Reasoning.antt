@@ -52,7 +52,7 @@ use Rattle.paper_reasons.specs.declared.TentativeReason.{TentativeReason}
 use Rattle.paper_reasons.specs.declared.TentativeReason.TheVariants as tentative
 use Rattle.paper_reasons.specs.declared.LevelReason.{LevelReason}
 use Rattle.paper_reasons.specs.declared.Deciding.{Deciding}
-use Rattle.paper_reasons.specs.declared.Decided.TheVariants as decided
+use Rattle.std.specs.declared.option.Option.TheVariants.{None, Some}
 use Rattle.paper_reasons.specs.Reasons.{first_that_holds, is_traded, price_set_by, price_reason, weight_given, weight_reasons}
 use Rattle.paper_reasons.specs.Reasons.{weight_reason, replacement_was, replacement_reasons, replacement_reason}
 use Rattle.paper_reasons.specs.Reasons.{tentative_did, tentative_reasons, tentative_reason, level_reason}
@@ -245,7 +245,7 @@ module _ (old : Record) (d : Day) (new : Made) (a : Accepted old d new) (on : ol
         level1 = level1;
         level2 = level2;
         level3 = level3;
-        figures = decided.By f;
+        figures = Some f;
       } ≡ modelled_with x old d p
   unfolding modelled_with deciding_at
   modelled_is x f w c k level1 level2 level3 f-is w-is c-is k_is is1 is2 is3 =
@@ -256,7 +256,7 @@ module _ (old : Record) (d : Day) (new : Made) (a : Accepted old d new) (on : ol
         is1 ∙ level_at_lem old d new a 1 0,
         is2 ∙ level_at_lem old d new a 2 1,
         is3 ∙ level_at_lem old d new a 3 2,
-        ap decided.By f-is ∙ sym (pick_true old.statics.ewma (decided.By (deciding_at old d p)) decided.None on),
+        ap Some f-is ∙ sym (pick_true old.statics.ewma (Some (deciding_at old d p)) None on),
       )
 
 -- and where it is no

@@ -15,6 +15,8 @@ use Rattle.paper.proofs.Logic.{and_left, and_right}
 use Rattle.exact.specs.EveryLaws.{every_cons}
 use Rattle.exact.specs.LentLaws.{Place, place_first, place_next, left_here, left_end}
 use Rattle.rows.specs.RowLaws.{rest_of, rest_first}
+use Rattle.std.specs.declared.option.Option.{Option}
+use Rattle.std.specs.declared.option.Option.TheVariants.{None, Some}
 use Rattle.paper_reasons.specs.declared.Fault.{Fault}
 use Rattle.paper_reasons.specs.declared.Fault.TheVariants as fault
 use Rattle.paper_reasons.specs.Faults.{rows_at_fault, first_row}
@@ -22,8 +24,8 @@ use Rattle.record_reasons.specs.declared.faults.RowFault.{RowFault}
 use Rattle.record_reasons.specs.RowFaults.{at_fault, judgeable, row_fault}
 
 -- the first at fault of rows that are counted from a number on
-abbrev first_from : RowFault → ℕ → List LentRow → Fault
-first_from which number rows = first_named fault.None (rows_at_fault number (at_fault which) rows)
+abbrev first_from : RowFault → ℕ → List LentRow → Option Fault
+first_from which number rows = first_named None (rows_at_fault number (at_fault which) rows)
 
 -- at a place: the row there has its number, the rows that are left decide for all, and each of them may be judged
 pub record Seeking (which : RowFault) (numbers : List ℤ) (at number : ℕ) : Type 0 where
@@ -54,12 +56,12 @@ module _ (which : RowFault) (numbers : List ℤ) (at number : ℕ) (s : Seeking 
   seeking_row = and_left (judgeable which (row_at numbers at)) _ all_judged
 
   -- the row at hand, or those behind it
-  turn : pick (at_fault which (row_at numbers at)) (fault.Row number)
+  turn : pick (at_fault which (row_at numbers at)) (Some (fault.Row number))
       (first_from which (suc number) (rest_of numbers (at + row_numbers))) ≡ row_fault which (rows_of numbers)
   unfolding rows_at_fault
   turn = sym (ap (first_from which number) rows_left) ∙ s.names
 
-  pub seeking_found : at_fault which (row_at numbers at) ≡ true → fault.Row number ≡ row_fault which (rows_of numbers)
+  pub seeking_found : at_fault which (row_at numbers at) ≡ true → Some (fault.Row number) ≡ row_fault which (rows_of numbers)
   seeking_found e = rw e at turn
 
   pub seeking_next : at_fault which (row_at numbers at) ≡ false → Seeking which numbers (at + row_numbers) (number + 1)
@@ -72,7 +74,7 @@ module _ (which : RowFault) (numbers : List ℤ) (at number : ℕ) (s : Seeking 
       }
 
 pub seeking_end : (which : RowFault) (numbers : List ℤ) (at number : ℕ) → Seeking which numbers at number
-    → length numbers ≤ at → fault.None ≡ row_fault which (rows_of numbers)
+    → length numbers ≤ at → None ≡ row_fault which (rows_of numbers)
 unfolding rows_at_fault
 seeking_end which numbers at number s h =
     sym (ap (first_from which number) (left_end row_at row_numbers numbers at (omega arith) h)) ∙ s.names

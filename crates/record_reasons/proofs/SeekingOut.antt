@@ -12,8 +12,8 @@ use Rattle.paper.specs.Lists.{pick}
 use Rattle.paper.specs.Ranges.{admission_numbers}
 use Rattle.paper.specs.Verdicts.{first_named}
 use Rattle.paper.proofs.StaticsFacts.{row_facts}
-use Rattle.paper_reasons.specs.declared.FieldAtFault.{FieldAtFault}
-use Rattle.paper_reasons.specs.declared.FieldAtFault.TheVariants as field
+use Rattle.std.specs.declared.option.Option.{Option}
+use Rattle.std.specs.declared.option.Option.TheVariants.{None, Some}
 use Rattle.paper_reasons.specs.AdmissionFaults.{admission_table, out_of_table, unfit, first_place, fields_at_fault}
 use Rattle.paper_reasons.specs.AdmissionFaults.{field_at_fault}
 use Rattle.paper_reasons.proofs.AdmissionFaults.{unnamed_in_table, table_before, table_passed}
@@ -28,21 +28,21 @@ pub record SeekingOut (least most numbers : List ℕ) (at place : ℕ) : Type 0 
 pub seeking_first : (least most numbers : List ℕ) → SeekingOut least most numbers 0 1
 seeking_first least most numbers = record { counts = refl; high = omega arith; names = refl }
 
-nothing_left : (place : ℕ) (least most : List ℕ) → first_out place least most [] ≡ field.None
+nothing_left : (place : ℕ) (least most : List ℕ) → first_out place least most [] ≡ None
 unfolding first_out
 nothing_left place [] most = refl
 nothing_left place (l ∷ ls) [] = refl
 nothing_left place (l ∷ ls) (m ∷ ms) = refl
 
 pub seeking_end : (least most numbers : List ℕ) (at place : ℕ) → SeekingOut least most numbers at place
-    → length numbers ≤ at → field.None ≡ first_out 1 least most numbers
+    → length numbers ≤ at → None ≡ first_out 1 least most numbers
 seeking_end least most numbers at place s h =
     sym (rw (drop_of_length-le numbers h) (nothing_left place (drop at least) (drop at most))) ∙ s.names
 
 module _ (least most numbers : List ℕ) (same : (length least ≡ length numbers) × (length most ≡ length numbers)) where
   module _ (at place : ℕ) (s : SeekingOut least most numbers at place) (h : at < length numbers) where
     -- the number at hand, or those behind it
-    turn : pick (out_at least most numbers at) (field.Number place)
+    turn : pick (out_at least most numbers at) (Some place)
         (first_out (suc place) (drop (suc at) least) (drop (suc at) most) (drop (suc at) numbers))
         ≡ first_out 1 least most numbers
     unfolding first_out
@@ -54,7 +54,7 @@ module _ (least most numbers : List ℕ) (same : (length least ≡ length number
         ) at s.names
 
     pub seeking_found : out_at least most numbers at ≡ true
-        → field.Number place ≡ first_out 1 least most numbers
+        → Some place ≡ first_out 1 least most numbers
     seeking_found e = rw e at turn
 
     pub seeking_next : out_at least most numbers at ≡ false
@@ -68,21 +68,21 @@ module _ (least most numbers : List ℕ) (same : (length least ≡ length number
 
 -- ---- the table of an admission, and what stands behind it
 
-module _ (a : Admission) (out : FieldAtFault)
-    (is : out ≡ first_named field.None (out_of_table first_place admission_table (admission_numbers a))) where
+module _ (a : Admission) (out : Option ℕ)
+    (is : out ≡ first_named None (out_of_table first_place admission_table (admission_numbers a))) where
   -- where the table names none, the step is above 0
-  pub step_positive : out ≡ field.None → 0 < a.given.h
+  pub step_positive : out ≡ None → 0 < a.given.h
   step_positive e =
       let all = unnamed_in_table first_place admission_table (admission_numbers a) (sym is ∙ e) in
       (row_facts admission_table (admission_numbers a) all 7 (omega arith)).least
 
-  pub table_named : (place : ℕ) → out ≡ field.Number place → field.Number place ≡ field_at_fault a
+  pub table_named : (place : ℕ) → out ≡ Some place → Some place ≡ field_at_fault a
   unfolding field_at_fault fields_at_fault
   table_named place e =
       sym (table_before (unfit a a.given) first_place admission_table (admission_numbers a) place (sym is ∙ e))
 
-  pub table_passed_by : (behind : FieldAtFault) → out ≡ field.None
-      → behind ≡ first_named field.None (unfit a a.given) → behind ≡ field_at_fault a
+  pub table_passed_by : (behind : Option ℕ) → out ≡ None
+      → behind ≡ first_named None (unfit a a.given) → behind ≡ field_at_fault a
   unfolding field_at_fault fields_at_fault
   table_passed_by behind e b =
       b ∙ sym (table_passed (unfit a a.given) first_place admission_table (admission_numbers a) (sym is ∙ e))

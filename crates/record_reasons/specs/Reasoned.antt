@@ -20,7 +20,7 @@ use Rattle.paper_reasons.specs.declared.TentativeReason.TheVariants as tentative
 use Rattle.paper_reasons.specs.declared.LevelReason.{LevelReason}
 use Rattle.paper_reasons.specs.declared.LevelReason.TheVariants as level
 use Rattle.paper_reasons.specs.declared.Deciding.{Deciding}
-use Rattle.paper_reasons.specs.declared.Decided.TheVariants as decided
+use Rattle.std.specs.declared.option.Option.TheVariants.{None}
 use Rattle.paper_reasons.specs.declared.Reasons.{Reasons}
 use Rattle.paper_reasons.specs.Reasons.{first_that_holds, price_reasons, weight_reason, replacement_reason, tentative_reason}
 use Rattle.paper_reasons.specs.Reasons.{level_reason}
@@ -76,7 +76,7 @@ unmodelled_with x =
       level1 = level.Minimum;
       level2 = level.Minimum;
       level3 = level.Minimum;
-      figures = decided.None;
+      figures = None;
     }
 
 -- with isEWMA yes

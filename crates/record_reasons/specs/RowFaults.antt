@@ -9,6 +9,8 @@ use Rattle.paper.specs.Ranges.{LentRow, rows_of, row_of, whole_rows, valid_row, 
 use Rattle.paper_desk.specs.Evaluation.{is_crossed_row, row_fits}
 use Rattle.paper_desk.specs.Limits.{crossed}
 use Rattle.paper.specs.Verdicts.{first_named}
+use Rattle.std.specs.declared.option.Option.{Option}
+use Rattle.std.specs.declared.option.Option.TheVariants.{None, Some}
 use Rattle.paper_reasons.specs.declared.Fault.{Fault}
 use Rattle.paper_reasons.specs.declared.Fault.TheVariants as fault
 use Rattle.paper_reasons.specs.Faults.{rows_at_fault, first_row, out_of_range, is_same}
@@ -28,33 +30,27 @@ judgeable Crossed = λ row. true
 judgeable Beyond = valid_row
 
 -- the first row at fault
-abbrev pub row_fault : RowFault → List LentRow → Fault
-row_fault which rows = first_named fault.None (rows_at_fault first_row (at_fault which) rows)
+abbrev pub row_fault : RowFault → List LentRow → Option Fault
+row_fault which rows = first_named None (rows_at_fault first_row (at_fault which) rows)
 
 -- 6 of a row, where the numbers are whole rows
-abbrev pub whole_fault : List ℤ → Fault
-whole_fault rows = pick (whole_rows rows) (row_fault OutOfRange (rows_of rows)) fault.None
+abbrev pub whole_fault : List ℤ → Option Fault
+whole_fault rows = pick (whole_rows rows) (row_fault OutOfRange (rows_of rows)) None
 
 -- the first of three terms
-abbrev pub term_fault : (first second third : Bool) → Fault
+abbrev pub term_fault : (first second third : Bool) → Option Fault
 term_fault first second third =
-    pick first (fault.Term 0) (pick second (fault.Term 1) (pick third (fault.Term 2) fault.None))
-
--- the first fault, and where there is none the second
-unfoldable pub or_else : (row term : Fault) → Fault
-or_else fault.None term = term
-or_else (fault.Row n) term = fault.Row n
-or_else (fault.Term k) term = fault.Term k
+    pick first (Some (fault.Term 0)) (pick second (Some (fault.Term 1)) (pick third (Some (fault.Term 2)) None))
 
 -- what is at fault in a refusal, of the bands that were made
-unfoldable pub fault_with : Verdict → Day → (rows : List ℤ) → (bands : List Limits) → Fault
+unfoldable pub fault_with : Verdict → Day → (rows : List ℤ) → (bands : List Limits) → Option Fault
 fault_with v d rows bands =
-    pick (is_same v verdict.OutOfRange) (first_named fault.None (out_of_range d rows))
+    pick (is_same v verdict.OutOfRange) (first_named None (out_of_range d rows))
     (pick (is_same v verdict.RowCrossed) (row_fault Crossed (rows_of rows))
     (pick (is_same v verdict.PriceOutOfRange) (row_fault Beyond (rows_of rows))
     (pick (is_same v verdict.BandCrossed) (term_fault (crossed (get_or bands 0 no_limits)) (crossed (get_or bands 1 no_limits))
     (crossed (get_or bands 2 no_limits)))
-    fault.None)))
+    None)))
 
 -- what 16 and 7 say of the rows: neither is given unless 6 is not
 pub record Refused (v : Verdict) (rows : List ℤ) : Type 0 where

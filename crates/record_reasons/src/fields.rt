@@ -1,6 +1,7 @@
 // Which number of an admission is at fault where it is refused 4, by its place in the line: the first that is out of its
 // own range, else the first that does not go with another.
 ghost use Rattle.std.specs.Prelude.{◌≡◌, ◌||◌, ◌<◌, ltb, length};
+ghost use Rattle.std.specs.declared.option.Option.TheVariants.{None, Some};
 ghost use Rattle.paper.specs.Lists.{pick};
 ghost use Rattle.paper.specs.Verdicts.{first_named};
 ghost use Rattle.paper_reasons.specs.AdmissionFaults.{is_off, unfit, first_place, field_at_fault};
@@ -8,7 +9,6 @@ ghost use Rattle.record_reasons.specs.FirstOut.{out_at, first_out};
 
 use inputs::{is_on_grid, numbers_of, valid_tentative};
 use paper::{Admission, GivenStatics, Price, Record};
-use paper_reasons::FieldAtFault;
 
 // ---- out of range
 
@@ -45,7 +45,7 @@ fn is_out(numbers: &[u64], least: &[u64], most: &[u64], at: usize) -> bool
 }
 
 // The first number that is out of its range.
-fn first_out(numbers: &[u64], least: &[u64], most: &[u64]) -> FieldAtFault
+fn first_out(numbers: &[u64], least: &[u64], most: &[u64]) -> Option<u64>
     requires { (length least.now ≡ length numbers.now) × (length most.now ≡ length numbers.now) }
     ensures { result ≡ first_out first_place least.now most.now numbers.now }
 {
@@ -53,12 +53,12 @@ fn first_out(numbers: &[u64], least: &[u64], most: &[u64]) -> FieldAtFault
     let mut place: u64 = 1;
     while at < numbers.len() {
         if is_out(numbers, least, most, at) {
-            return FieldAtFault::Number(place);
+            return Some(place);
         }
         at += 1;
         place += 1;
     }
-    FieldAtFault::None
+    None
 }
 
 // ---- not together
@@ -80,22 +80,22 @@ fn is_unfit(step: u64, before: u64, x: u64) -> bool
 }
 
 // The number at a place where it is at fault, else what a later one is.
-fn named_or(fault: bool, place: u64, later: FieldAtFault) -> FieldAtFault
-    ensures { result ≡ pick fault (FieldAtFault.Number place) later }
+fn named_or(fault: bool, place: u64, later: Option<u64>) -> Option<u64>
+    ensures { result ≡ pick fault (Some place) later }
 {
     if fault {
-        return FieldAtFault::Number(place);
+        return Some(place);
     }
     later
 }
 
 // The first number that does not go with another: from the last place to the first, so that the first is named.
-fn first_unfit(a: Admission) -> FieldAtFault
+fn first_unfit(a: Admission) -> Option<u64>
     requires { 0 < a.given.h }
-    ensures { result ≡ first_named FieldAtFault.None (unfit a a.given) }
+    ensures { result ≡ first_named None (unfit a a.given) }
 {
     let g = a.given;
-    let f = named_or(is_unfit(g.h, g.min3, g.smax), 20, FieldAtFault::None);
+    let f = named_or(is_unfit(g.h, g.min3, g.smax), 20, None);
     let f = named_or(is_unfit(g.h, g.min2, g.min3), 19, f);
     let f = named_or(is_unfit(g.h, g.min1, g.min2), 18, f);
     let f = named_or(is_off(g.h, g.min1), 17, f);
@@ -107,7 +107,7 @@ fn first_unfit(a: Admission) -> FieldAtFault
 }
 
 // The number at fault in an admission, or none.
-pub fn field_at_fault(a: Admission) -> FieldAtFault
+pub fn field_at_fault(a: Admission) -> Option<u64>
     ensures { result ≡ field_at_fault a }
 {
     let numbers = numbers_of(a);
@@ -115,7 +115,7 @@ pub fn field_at_fault(a: Admission) -> FieldAtFault
     let most = numbers_of(MOST);
     let out = first_out(&numbers, &least, &most);
     match out {
-        FieldAtFault::None => first_unfit(a),
-        FieldAtFault::Number(place) => FieldAtFault::Number(place),
+        None => first_unfit(a),
+        Some(place) => Some(place),
     }
 }

@@ -14,8 +14,7 @@ use crate::faults::fault_of;
 use crate::reasons::reasons_of;
 use paper::Day;
 use paper_reasons::{
-    Decided, LevelReason, PriceReason, Reasons, ReplacementReason, TentativeReason, WeightReason,
-    Why,
+    LevelReason, PriceReason, Reasons, ReplacementReason, TentativeReason, WeightReason, Why,
 };
 use record_answers::Slot;
 
@@ -31,7 +30,7 @@ pub fn no_reasons() -> Reasons
         level1: LevelReason::None,
         level2: LevelReason::None,
         level3: LevelReason::None,
-        figures: Decided::None,
+        figures: None,
     }
 }
 

@@ -14,8 +14,7 @@ ghost use Rattle.record_reasons.specs.Reasoned.{Accepted};
 use evaluation::PriceFigures;
 use paper::{Day, MILLIONTHS_IN_BP, Model, Price, Rate, Record, Statics, Tentative};
 use paper_reasons::{
-    Decided, Deciding, LevelReason, PriceReason, Reasons, ReplacementReason, TentativeReason,
-    WeightReason,
+    Deciding, LevelReason, PriceReason, Reasons, ReplacementReason, TentativeReason, WeightReason,
 };
 use rates::tentative::tentative_rate_of;
 use rates::volatility::{model_of, move_of, replacement, weight_of, weighted};
@@ -128,7 +127,7 @@ fn unmodelled(price: PriceReason) -> Reasons
         level1: LevelReason::Minimum,
         level2: LevelReason::Minimum,
         level3: LevelReason::Minimum,
-        figures: Decided::None,
+        figures: None,
     }
 }
 
@@ -187,7 +186,7 @@ fn modelled(price: PriceReason, old: Record, d: Day, new: Made) -> Reasons
         level1: level_reason(st, 1, d.m, after.bp, made[0]),
         level2: level_reason(st, 2, d.m, after.bp, made[1]),
         level3: level_reason(st, 3, d.m, after.bp, made[2]),
-        figures: Decided::By(f),
+        figures: Some(f),
     }
 }
 

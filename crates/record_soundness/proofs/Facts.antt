@@ -6,7 +6,7 @@ use Prim.Native.Nat.{ℕ, ◌≤◌, ◌<◌}
 use lib.Dec.{leb}
 use lib.ListN.{get_or}
 use borrow.Author.Tests.{leb-true}
-use Rattle.paper.specs.declared.Near.TheVariants.{Since}
+use Rattle.std.specs.declared.option.Option.TheVariants.{Some}
 use Rattle.paper.specs.declared.NearSeconds.{NearSeconds}
 use Rattle.paper.specs.declared.Rate.{Rate}
 use Rattle.paper.specs.declared.External.{External}
@@ -54,7 +54,7 @@ unfolding valid_near_seconds
 near_facts n v =
     record { top = and_left _ (valid_near n.bottom) v; bottom = and_right (valid_near n.top) _ v }
 
-pub since_last : (second : ℕ) → valid_near (Since second) ≡ true → second ≤ second_last
+pub since_last : (second : ℕ) → valid_near (Some second) ≡ true → second ≤ second_last
 unfolding valid_near
 since_last second v = leb-true _ _ v
 

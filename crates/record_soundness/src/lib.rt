@@ -10,8 +10,7 @@ ghost use Rattle.paper.specs.Ranges.{valid_slots, sound_figures};
 
 use inputs::{is_on_grid, is_rate, valid_figures, valid_id, valid_statics, valid_terms};
 use paper::{
-    External, Limit, Limits, MadeLimit, Near, NearSeconds, Price, Rate, Record, Session, Standing,
-    Statics,
+    External, Limit, Limits, NearSeconds, Price, Rate, Record, Session, Standing, Statics,
 };
 
 pub fn is_live(standing: Standing) -> bool
@@ -45,8 +44,8 @@ fn is_limit(lot: u64, x: u64) -> bool
 {
     let made = Limit::new(x);
     match made {
-        MadeLimit::Made(limit) => is_on_grid(lot, limit.units),
-        MadeLimit::OutOfRange => false,
+        Some(limit) => is_on_grid(lot, limit.units),
+        None => false,
     }
 }
 
@@ -73,12 +72,12 @@ fn valid_ranges_and_bands(
         & valid_limits(lot, bands[2])
 }
 
-fn valid_near(near: Near) -> bool
+fn valid_near(near: Option<u64>) -> bool
     ensures { result ≡ valid_near near }
 {
     match near {
-        Near::Not => true,
-        Near::Since(second) => second <= Record::SECOND_LAST,
+        None => true,
+        Some(second) => second <= Record::SECOND_LAST,
     }
 }
 

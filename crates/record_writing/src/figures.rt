@@ -7,8 +7,8 @@ ghost use Rattle.paper_desk.specs.Limits.{range_of};
 ghost use Rattle.record_writing.specs.Evaluates.{RangesAsked, Evaluating, Makes, Evaluates};
 
 use paper::{
-    Day, Figures, Limits, Moves, Near, NearSeconds, Price, Rate, Record, Session, Standing,
-    Statics, Tentative,
+    Day, Figures, Limits, Moves, NearSeconds, Price, Rate, Record, Session, Standing, Statics,
+    Tentative,
 };
 
 fn ranges_of(st: Statics, p: Price, rates: [Rate; Record::LEVELS]) -> [Limits; Record::LEVELS]
@@ -84,8 +84,8 @@ pub fn evaluated(r: Record, d: Day, made: Made) -> Record
         bands,
         moves: cleared,
         near: [NearSeconds {
-            top: Near::Not,
-            bottom: Near::Not,
+            top: None,
+            bottom: None,
         }; Record::TERMS],
         second: 0,
         session: Session::Main, // W-210: "An evaluation puts the record back in main."

@@ -14,8 +14,8 @@ ghost use Rattle.paper_desk.specs.Desk.{admitted, near_on, moved, watching};
 ghost use Rattle.record_writing.specs.Needs.{Admitting, Shiftable};
 
 use paper::{
-    Admission, External, Limits, Moves, Near, NearSeconds, Price, Quote, Record, Session, Side,
-    Standing, Tentative, Term,
+    Admission, External, Limits, Moves, NearSeconds, Price, Quote, Record, Session, Side, Standing,
+    Tentative, Term,
 };
 
 // ---- an admission
@@ -50,8 +50,8 @@ pub fn admitted(a: Admission, p1: Price, p2: Price) -> Record
         bands: [Limits { lower: 0, upper: 0 }; Record::TERMS],
         moves: Moves { upper: 0, lower: 0 },
         near: [NearSeconds {
-            top: Near::Not,
-            bottom: Near::Not,
+            top: None,
+            bottom: None,
         }; Record::TERMS],
         second: 0,
         session: Session::Main,

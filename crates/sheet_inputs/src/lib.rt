@@ -6,10 +6,10 @@
 use exact::unsigned;
 use paper::{Day, Record, Term};
 use record_answers::Slot;
-use text_protocol::AdmitPlace;
+use text_protocol::admit_place;
 
 // The numbers of an admission as the evening's `admit` has them.
-pub const ADMISSION_NUMBERS: usize = AdmitPlace::COUNT;
+pub const ADMISSION_NUMBERS: usize = admit_place::COUNT;
 
 // The numbers of a day with three terms alike: DAY B M K RRCL RRCH.
 pub const DAY_NUMBERS: usize = 6;

@@ -8,7 +8,7 @@ ghost use Rattle.text_out.specs.Places.{next_bytes, next_signed_bytes};
 ghost use Rattle.text_out.specs.Told.{Told};
 ghost use Rattle.text_answer.specs.Sizes.{term_bytes};
 
-use paper::{External, Limits, Near, NearSeconds, Rate, Record, Session, Standing, Term};
+use paper::{External, Limits, NearSeconds, Rate, Record, Session, Standing, Term};
 use text_bytes::ROOM;
 use text_out::{put_next, put_next_signed};
 
@@ -68,13 +68,13 @@ fn put_ranges(out: &mut [u8; ROOM], len: usize, ranges: [Limits; Record::LEVELS]
 }
 
 // "near: the second, or -1"
-fn put_near(out: &mut [u8; ROOM], len: usize, near: Near) -> usize
+fn put_near(out: &mut [u8; ROOM], len: usize, near: Option<u64>) -> usize
     requires { len + next_signed_bytes ≤ room }
     ensures { Told out.old len out.new result (near_number near ∷ []) next_signed_bytes }
 {
     match near {
-        Near::Since(second) => put_next(out, len, second),
-        Near::Not => put_next_signed(out, len, -1),
+        Some(second) => put_next(out, len, second),
+        None => put_next_signed(out, len, -1),
     }
 }
 

@@ -14,8 +14,8 @@ ghost use Rattle.text_answer.specs.WhySizes.{fault_bytes, levels_bytes, figures_
 
 use paper::Verdict;
 use paper_reasons::{
-    Decided, Deciding, Fault, FieldAtFault, LevelReason, PriceReason, Reasons, ReplacementReason,
-    TentativeReason, WeightReason, Why,
+    Deciding, Fault, LevelReason, PriceReason, Reasons, ReplacementReason, TentativeReason,
+    WeightReason, Why,
 };
 use text_bytes::ROOM;
 use text_out::{put_byte, put_bytes, put_next, put_number};
@@ -129,13 +129,13 @@ fn put_deciding(out: &mut [u8; ROOM], len: usize, f: Deciding) -> usize
 }
 
 // The figures that decided, or nothing where none did.
-fn put_figures(out: &mut [u8; ROOM], len: usize, figures: Decided) -> usize
+fn put_figures(out: &mut [u8; ROOM], len: usize, figures: Option<Deciding>) -> usize
     requires { len + figures_bytes ≤ room }
     ensures { Wrote out.old len out.new result (spelled (figure_words figures)) figures_bytes }
 {
     match figures {
-        Decided::None => len,
-        Decided::By(f) => put_deciding(out, len, f),
+        None => len,
+        Some(f) => put_deciding(out, len, f),
     }
 }
 
@@ -175,14 +175,16 @@ fn put_numbered(out: &mut [u8; ROOM], len: usize, word: &[u8], number: u64) -> u
 }
 
 // What is at fault in a refused evaluation: a row, a term, or none.
-fn put_fault(out: &mut [u8; ROOM], len: usize, fault: Fault) -> usize
+fn put_fault(out: &mut [u8; ROOM], len: usize, fault: Option<Fault>) -> usize
     requires { len + fault_bytes ≤ room }
     ensures { Wrote out.old len out.new result (spelled (fault_words fault)) fault_bytes }
 {
     match fault {
-        Fault::None => put_word(out, len, b"none"),
-        Fault::Row(number) => put_numbered(out, len, b"row", number),
-        Fault::Term(number) => put_numbered(out, len, b"term", number),
+        None => put_word(out, len, b"none"),
+        Some(fault) => match fault {
+            Fault::Row(number) => put_numbered(out, len, b"row", number),
+            Fault::Term(number) => put_numbered(out, len, b"term", number),
+        },
     }
 }
 
@@ -205,18 +207,18 @@ pub fn say_why(out: &mut [u8; ROOM], len: usize, y: Why) -> usize
 }
 
 // The number at fault in an admission, or nothing.
-fn put_field(out: &mut [u8; ROOM], len: usize, field: FieldAtFault) -> usize
+fn put_field(out: &mut [u8; ROOM], len: usize, field: Option<u64>) -> usize
     requires { len + fault_bytes ≤ room }
     ensures { Wrote out.old len out.new result (spelled (field_words field)) fault_bytes }
 {
     match field {
-        FieldAtFault::None => len,
-        FieldAtFault::Number(place) => put_numbered(out, len, b"field", place),
+        None => len,
+        Some(place) => put_numbered(out, len, b"field", place),
     }
 }
 
 // The number of an admission's verdict, and the number of the line that is at fault.
-pub fn say_field(out: &mut [u8; ROOM], len: usize, verdict: Verdict, field: FieldAtFault) -> usize
+pub fn say_field(out: &mut [u8; ROOM], len: usize, verdict: Verdict, field: Option<u64>) -> usize
     requires { len + answer_most ≤ room }
     ensures { Wrote out.old len out.new result (field_text verdict field) answer_most }
 {

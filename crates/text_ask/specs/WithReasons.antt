@@ -15,20 +15,20 @@ use Rattle.text_protocol.specs.declared.Role.{Role}
 use Rattle.text_protocol.specs.declared.Role.TheVariants as role
 use Rattle.text_protocol.specs.declared.Ask.{Ask}
 use Rattle.text_protocol.specs.declared.Ask.TheVariants as ask
-use Rattle.text_protocol.specs.declared.Explained.{Explained}
-use Rattle.text_protocol.specs.declared.Explained.TheVariants.{No, Because}
+use Rattle.std.specs.declared.option.Option.{Option}
+use Rattle.std.specs.declared.option.Option.TheVariants.{None, Some}
 use Rattle.text_protocol.specs.declared.Performed.{Performed}
 use Rattle.text_protocol.specs.Calls.{call_asked, role_of}
 
 -- no reason, and one
-abbrev pub no_reason : Explained
-no_reason = No
+abbrev pub no_reason : Option Why
+no_reason = None
 
-abbrev pub because : Why → Explained
-because why = Because why
+abbrev pub because : Why → Option Why
+because why = Some why
 
 -- an answer, and why it is that
-abbrev pub explained : Answer → Explained → Performed
+abbrev pub explained : Answer → Option Why → Performed
 explained answer why = record { answer = answer; why = why }
 
 -- what stands for an answer where the desk was asked nothing
@@ -36,13 +36,13 @@ abbrev pub unasked : Performed
 unasked = explained (saying verdict.Done) no_reason
 
 -- why: only an evaluation has reasons. They are those of the table before it
-unfoldable pub explanation : Role → (rows : List ℤ) → List Record → Explained
-explanation (role.Admission g) rows t = No
-explanation (role.Evaluation id d) rows t = Because (why_on t id (day_of d) rows)
-explanation role.Quote rows t = No
-explanation (role.Move side) rows t = No
-explanation role.Opening rows t = No
-explanation role.Other rows t = No
+unfoldable pub explanation : Role → (rows : List ℤ) → List Record → Option Why
+explanation (role.Admission g) rows t = None
+explanation (role.Evaluation id d) rows t = Some (why_on t id (day_of d) rows)
+explanation role.Quote rows t = None
+explanation (role.Move side) rows t = None
+explanation role.Opening rows t = None
+explanation role.Other rows t = None
 
 -- the id of the security that is asked about; 0 where none is
 abbrev pub id_asked : Ask → ℕ

@@ -12,7 +12,7 @@ use desk::reasons::why_asked;
 use desk::{about_known, admit};
 use paper::{Answer, Record, Verdict};
 use paper_reasons::Why;
-use text_protocol::{Ask, AskedCall, Explained, Performed, Role};
+use text_protocol::{Ask, AskedCall, Performed, Role};
 
 // The id of the security that is asked about; 0 where none is.
 pub fn id_asked(a: Ask) -> u64
@@ -43,21 +43,21 @@ fn perform(t: &mut [Record], at: usize, known: bool, c: AskedCall, rows: &[i64])
 }
 
 // No reason: it is not asked why, or the call has none.
-fn no_reason() -> Explained
+fn no_reason() -> Option<Why>
     ensures { result ≡ no_reason }
 {
-    Explained::No
+    None
 }
 
 // A reason.
-fn because(why: Why) -> Explained
+fn because(why: Why) -> Option<Why>
     ensures { result ≡ because why }
 {
-    Explained::Because(why)
+    Some(why)
 }
 
 // An answer, and why it is that.
-fn with_why(answer: Answer, why: Explained) -> Performed
+fn with_why(answer: Answer, why: Option<Why>) -> Performed
     ensures { result ≡ explained answer why }
 {
     Performed { answer, why }

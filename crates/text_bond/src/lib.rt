@@ -20,7 +20,7 @@ use text_answer::say_number;
 use text_bytes::ROOM;
 use text_call::{signed_at, term_of};
 use text_out::{put_byte, put_next, put_number};
-use text_protocol::{BondPlace, Kept, Pairs};
+use text_protocol::{Kept, Pairs, bond_place};
 
 // ---- what is given
 
@@ -28,22 +28,22 @@ fn statics_of(zs: &[i64]) -> BondStatics
     ensures { result ≡ bond_statics_of zs.now }
 {
     BondStatics {
-        h: number_at(zs, BondPlace::H),
-        q: number_at(zs, BondPlace::Q),
-        wait: number_at(zs, BondPlace::WAIT),
-        rh1: number_at(zs, BondPlace::RH1),
-        rh2: number_at(zs, BondPlace::RH2),
-        rh3: number_at(zs, BondPlace::RH3),
-        liq: number_at(zs, BondPlace::LIQ),
-        min1: number_at(zs, BondPlace::MIN1),
-        min2: number_at(zs, BondPlace::MIN2),
-        min3: number_at(zs, BondPlace::MIN3),
-        smax: number_at(zs, BondPlace::SMAX),
-        xpr: number_at(zs, BondPlace::XPR),
-        pchmax: number_at(zs, BondPlace::PCHMAX),
-        pclmax: number_at(zs, BondPlace::PCLMAX),
-        monitoring: number_at(zs, BondPlace::MONITORING),
-        ewma: number_at(zs, BondPlace::ISEWMA),
+        h: number_at(zs, bond_place::H),
+        q: number_at(zs, bond_place::Q),
+        wait: number_at(zs, bond_place::WAIT),
+        rh1: number_at(zs, bond_place::RH1),
+        rh2: number_at(zs, bond_place::RH2),
+        rh3: number_at(zs, bond_place::RH3),
+        liq: number_at(zs, bond_place::LIQ),
+        min1: number_at(zs, bond_place::MIN1),
+        min2: number_at(zs, bond_place::MIN2),
+        min3: number_at(zs, bond_place::MIN3),
+        smax: number_at(zs, bond_place::SMAX),
+        xpr: number_at(zs, bond_place::XPR),
+        pchmax: number_at(zs, bond_place::PCHMAX),
+        pclmax: number_at(zs, bond_place::PCLMAX),
+        monitoring: number_at(zs, bond_place::MONITORING),
+        ewma: number_at(zs, bond_place::ISEWMA),
     }
 }
 
@@ -52,20 +52,20 @@ pub fn bond_of(k: Kept, p: Pairs, zs: &[i64]) -> Bond
     ensures { result ≡ bond_of k zs.now p }
 {
     Bond {
-        m: number_at(zs, BondPlace::M),
-        net: number_at(zs, BondPlace::NET),
-        face: number_at(zs, BondPlace::FACE),
-        accrued: number_at(zs, BondPlace::ACCRUED),
-        s: number_at(zs, BondPlace::S),
+        m: number_at(zs, bond_place::M),
+        net: number_at(zs, bond_place::NET),
+        face: number_at(zs, bond_place::FACE),
+        accrued: number_at(zs, bond_place::ACCRUED),
+        s: number_at(zs, bond_place::S),
         tentative: Tentative {
-            bp: number_at(zs, BondPlace::TENTATIVE),
-            age: number_at(zs, BondPlace::AGE),
+            bp: number_at(zs, bond_place::TENTATIVE),
+            age: number_at(zs, bond_place::AGE),
         },
         statics: statics_of(zs),
-        first: term_of(k, p.first, zs, BondPlace::K0),
-        second: term_of(k, p.second, zs, BondPlace::K1),
-        third: term_of(k, p.third, zs, BondPlace::K2),
-        repo: signed_at(zs, BondPlace::REPO),
+        first: term_of(k, p.first, zs, bond_place::K0),
+        second: term_of(k, p.second, zs, bond_place::K1),
+        third: term_of(k, p.third, zs, bond_place::K2),
+        repo: signed_at(zs, bond_place::REPO),
     }
 }
 

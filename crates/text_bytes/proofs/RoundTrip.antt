@@ -9,7 +9,7 @@ use lib.IntN.{ℤ, pos, negsuc}
 use lib.Signed.{mag}
 use lib.ListN.{length, take, length-append}
 use lib.Seq.{take_at}
-use Rattle.text_bytes.specs.declared.Number.TheVariants as number
+use Rattle.std.specs.declared.option.Option.TheVariants.{Some}
 use Rattle.text_bytes.specs.Bytes.{is_blank, words, line_feed, space, digit_zero, digit_nine}
 use Rattle.text_bytes.specs.Numbers.{Decimal, one, more, decimal, signed, least, Fitting, none_fits, also_fits}
 use Rattle.text_bytes.specs.Numbers.{number_of, next, spaced, numbers_of, answer_text}
@@ -57,7 +57,7 @@ signed_spells (negsuc n) h =
     rw q.0.is at (minus q.0.digits q.1 (rw q.0.is (omega arith)))
 
 -- A PRINTED NUMBER READS BACK
-pub signed_back : (z : ℤ) → mag z < least → number_of (signed z) ≡ number.Is z
+pub signed_back : (z : ℤ) → mag z < least → number_of (signed z) ≡ Some z
 signed_back z h = spells_reads (signed_spells z h)
 
 -- ---- answers
@@ -89,22 +89,22 @@ answer_words {v} {zs} (also_fits h p) =
     words_solid (decimal v) (spells_solid s) (spells_some s) (spaced_ends zs)
     ∙ ap (λ (ws : List (List ℕ)). decimal v ∷ ws) (spaced_words p)
 
-read_back : {zs : List ℤ} → Fitting zs → map number_of (map signed zs) ≡ map number.Is zs
+read_back : {zs : List ℤ} → Fitting zs → map number_of (map signed zs) ≡ map Some zs
 read_back none_fits = refl
 read_back (also_fits {z} {zs} h p) = rw (signed_back z h, read_back p)
 
 -- AN ANSWER'S BYTES READ BACK TO THE SAME NUMBERS
 pub answer_reads_back : {v : ℕ} {zs : List ℤ} → Fitting (numbers_of v zs)
-    → map number_of (words (decimal v ++ spaced zs)) ≡ map number.Is (numbers_of v zs)
+    → map number_of (words (decimal v ++ spaced zs)) ≡ map Some (numbers_of v zs)
 answer_reads_back p = ap (map number_of) (answer_words p) ∙ read_back p
 
-same_numbers : (xs ys : List ℤ) → map number.Is xs ≡ map number.Is ys → xs ≡ ys
+same_numbers : (xs ys : List ℤ) → map Some xs ≡ map Some ys → xs ≡ ys
 same_numbers [] [] e = refl
 same_numbers [] (y ∷ ys) e = impossible cc
 same_numbers (x ∷ xs) [] e = impossible cc
 same_numbers (x ∷ xs) (y ∷ ys) e =
     let h : x ≡ y = cc in
-    let t : map number.Is xs ≡ map number.Is ys = cc in
+    let t : map Some xs ≡ map Some ys = cc in
     rw (h, same_numbers xs ys t)
 
 -- a byte more at the end of each tells nothing apart

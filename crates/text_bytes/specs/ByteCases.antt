@@ -1,6 +1,6 @@
 -- docs/EVENING.md, "Lines and words" and "Numbers", by examples: both sides of each rule.
 use Rattle.std.specs.Prelude.{◌≡◌, refl, true, false, [], ◌∷◌, map, pos, negsuc}
-use Rattle.text_bytes.specs.declared.Number.TheVariants as number
+use Rattle.std.specs.declared.option.Option.TheVariants.{None, Some}
 use Rattle.text_bytes.specs.Bytes.{is_blank, is_line_feed, run, grow, pieces, full, ended, words, lines, same, bytes}
 use Rattle.text_bytes.specs.Bytes.{is_not}
 use Rattle.text_bytes.specs.Numbers.{spelt, decimal, signed, next, spaced, answer_text, is_digit, size_from, size_of}
@@ -25,13 +25,13 @@ same_are = (refl, refl, refl, refl)
 -- WHICH NUMBER A WORD SPELLS: zeros may lead, and minus zero is zero; the greatest and the least number of 64 bits, and
 -- one past each; and words that spell none
 pub numbers_are : (map number_of (bytes "0" ∷ bytes "007" ∷ bytes "-12" ∷ bytes "-0" ∷ [])
-    ≡ number.Is (pos 0) ∷ number.Is (pos 7) ∷ number.Is (negsuc 11) ∷ number.Is (pos 0) ∷ [])
+    ≡ Some (pos 0) ∷ Some (pos 7) ∷ Some (negsuc 11) ∷ Some (pos 0) ∷ [])
     × (map number_of (bytes "9223372036854775807" ∷ bytes "9223372036854775808" ∷ [])
-    ≡ number.Is (pos 9223372036854775807) ∷ number.Bad ∷ [])
+    ≡ Some (pos 9223372036854775807) ∷ None ∷ [])
     × (map number_of (bytes "-9223372036854775808" ∷ bytes "-9223372036854775809" ∷ [])
-    ≡ number.Is (negsuc 9223372036854775807) ∷ number.Bad ∷ [])
+    ≡ Some (negsuc 9223372036854775807) ∷ None ∷ [])
     × (map number_of ([] ∷ bytes "-" ∷ bytes "+7" ∷ bytes "7." ∷ bytes "/7" ∷ bytes ":7" ∷ bytes "--7" ∷ [])
-    ≡ number.Bad ∷ number.Bad ∷ number.Bad ∷ number.Bad ∷ number.Bad ∷ number.Bad ∷ number.Bad ∷ [])
+    ≡ None ∷ None ∷ None ∷ None ∷ None ∷ None ∷ None ∷ [])
 unfolding bytes is_digit size_from size_of up_to above below number_of
 numbers_are = (refl, refl, refl, refl)
 

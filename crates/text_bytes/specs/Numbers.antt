@@ -2,10 +2,8 @@
 use Rattle.std.specs.Prelude.{Bool, ◌&&◌, List, [], ◌∷◌, ◌++◌, ℕ, zero, suc, ◌+◌, ◌-◌, ◌*◌, ◌/◌, ◌%◌, ◌<◌, leb, ltb, eqb, ℤ, pos, negsuc}
 use Rattle.std.specs.Int.Signed.{mag}
 use Rattle.paper.specs.Lists.{pick}
-use Rattle.text_bytes.specs.declared.Size.{Size}
-use Rattle.text_bytes.specs.declared.Size.TheVariants as size
-use Rattle.text_bytes.specs.declared.Number.{Number}
-use Rattle.text_bytes.specs.declared.Number.TheVariants as number
+use Rattle.std.specs.declared.option.Option.{Option}
+use Rattle.std.specs.declared.option.Option.TheVariants.{None, Some}
 use Rattle.text_bytes.specs.Bytes.{line_feed, space, minus_sign, slash, digit_zero, digit_nine, is_not, run}
 
 -- ---- a number as it is printed
@@ -53,13 +51,13 @@ unfoldable pub is_digit : ℕ → Bool
 is_digit b = leb digit_zero b && leb b digit_nine
 
 -- the number that digits spell behind those of n
-unfoldable pub size_from : (n : ℕ) → (digits : List ℕ) → Size
-size_from n [] = size.Is n
-size_from n (b ∷ t) = pick (is_digit b) (size_from (10 * n + (b - digit_zero)) t) size.Bad
+unfoldable pub size_from : (n : ℕ) → (digits : List ℕ) → Option ℕ
+size_from n [] = Some n
+size_from n (b ∷ t) = pick (is_digit b) (size_from (10 * n + (b - digit_zero)) t) None
 
 -- at least one digit; zeros may lead
-unfoldable pub size_of : List ℕ → Size
-size_of [] = size.Bad
+unfoldable pub size_of : List ℕ → Option ℕ
+size_of [] = None
 size_of (b ∷ t) = size_from 0 (b ∷ t)
 
 -- the sizes of the greatest and of the least number of 64 bits with a sign
@@ -74,22 +72,22 @@ pub data Fitting : List ℤ → Type 0 where
   none_fits : Fitting []
   also_fits : {z : ℤ} {zs : List ℤ} → mag z < least → Fitting zs → Fitting (z ∷ zs)
 
-unfoldable pub up_to : (most : ℕ) → Size → Size
-up_to most (size.Is n) = pick (leb n most) (size.Is n) size.Bad
-up_to most size.Bad = size.Bad
+unfoldable pub up_to : (most : ℕ) → Option ℕ → Option ℕ
+up_to most (Some n) = pick (leb n most) (Some n) None
+up_to most None = None
 
-unfoldable pub above : Size → Number
-above (size.Is n) = number.Is (pos n)
-above size.Bad = number.Bad
+unfoldable pub above : Option ℕ → Option ℤ
+above (Some n) = Some (pos n)
+above None = None
 
-unfoldable pub below : Size → Number
-below (size.Is zero) = number.Is (pos 0)
-below (size.Is (suc n)) = number.Is (negsuc n)
-below size.Bad = number.Bad
+unfoldable pub below : Option ℕ → Option ℤ
+below (Some zero) = Some (pos 0)
+below (Some (suc n)) = Some (negsuc n)
+below None = None
 
 -- THE NUMBER THAT A WORD SPELLS: digits, behind a minus or none, from -2^63 to 2^63 - 1
-unfoldable pub number_of : List ℕ → Number
-number_of [] = number.Bad
+unfoldable pub number_of : List ℕ → Option ℤ
+number_of [] = None
 number_of (b ∷ t) = pick (eqb b minus_sign) (below (up_to least (size_of t))) (above (up_to greatest (size_of (b ∷ t))))
 
 -- ---- a pair of terms Ym/Yn

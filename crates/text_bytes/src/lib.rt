@@ -10,17 +10,3 @@ pub const ROOM: usize = 65_536;
 pub const DIGIT_ZERO: u64 = 48;
 
 pub const DIGIT_NINE: u64 = 57;
-
-// What digits spell: a size, or no number.
-#[derive(Drop)]
-pub enum Size {
-    Is(u64),
-    Bad,
-}
-
-// What a word spells: a signed number of 64 bits, or none.
-#[derive(Drop)]
-pub enum Number {
-    Is(i64),
-    Bad,
-}

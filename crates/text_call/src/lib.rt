@@ -17,8 +17,8 @@ use paper::{
     RepoLimits,
 };
 use text_protocol::{
-    AdmitPlace, AskedCall, CallKind, EvaluatePlace, IdPlace, InterestPlace, Kept, MovePlace,
-    NoticePlace, OutsidePlace, Pairs, QuotePlace,
+    AskedCall, CallKind, Kept, Pairs, admit_place, evaluate_place, id_place, interest_place,
+    move_place, notice_place, outside_place, quote_place,
 };
 
 // The number whose 64 bits are all 1: those of -1.
@@ -45,13 +45,13 @@ pub fn admission_of(zs: &[i64]) -> Admission
     ensures { result ≡ admission_of zs.now }
 {
     Admission {
-        id: number_at(zs, AdmitPlace::ID),
-        day: number_at(zs, AdmitPlace::DAY),
-        p1: number_at(zs, AdmitPlace::P1),
-        p2: number_at(zs, AdmitPlace::P2),
-        s: number_at(zs, AdmitPlace::S),
-        tentative: number_at(zs, AdmitPlace::TENTATIVE),
-        given: given_of(figures(zs, AdmitPlace::STATICS)),
+        id: number_at(zs, admit_place::ID),
+        day: number_at(zs, admit_place::DAY),
+        p1: number_at(zs, admit_place::P1),
+        p2: number_at(zs, admit_place::P2),
+        s: number_at(zs, admit_place::S),
+        tentative: number_at(zs, admit_place::TENTATIVE),
+        given: given_of(figures(zs, admit_place::STATICS)),
     }
 }
 
@@ -84,12 +84,12 @@ pub fn asked_of(k: Kept, p: Pairs, zs: &[i64]) -> AskedDay
     ensures { result ≡ asked_of k zs.now p }
 {
     AskedDay {
-        day: number_at(zs, EvaluatePlace::DAY),
-        b: number_at(zs, EvaluatePlace::B),
-        m: number_at(zs, EvaluatePlace::M),
-        first: term_of(k, p.first, zs, EvaluatePlace::K0),
-        second: term_of(k, p.second, zs, EvaluatePlace::K1),
-        third: term_of(k, p.third, zs, EvaluatePlace::K2),
+        day: number_at(zs, evaluate_place::DAY),
+        b: number_at(zs, evaluate_place::B),
+        m: number_at(zs, evaluate_place::M),
+        first: term_of(k, p.first, zs, evaluate_place::K0),
+        second: term_of(k, p.second, zs, evaluate_place::K1),
+        third: term_of(k, p.third, zs, evaluate_place::K2),
     }
 }
 
@@ -99,10 +99,10 @@ pub fn quote_of(zs: &[i64]) -> Quote
     ensures { result ≡ quote_of zs.now }
 {
     Quote {
-        second: number_at(zs, QuotePlace::SECOND),
-        term: number_at(zs, QuotePlace::TERM),
-        bid: number_at(zs, QuotePlace::BID),
-        ask: number_at(zs, QuotePlace::ASK),
+        second: number_at(zs, quote_place::SECOND),
+        term: number_at(zs, quote_place::TERM),
+        bid: number_at(zs, quote_place::BID),
+        ask: number_at(zs, quote_place::ASK),
     }
 }
 
@@ -142,8 +142,8 @@ fn outside_of(zs: &[i64]) -> Outside
     ensures { result ≡ outside_of zs.now }
 {
     Outside {
-        bid: float_at(zs, OutsidePlace::BIDBITS),
-        ask: float_at(zs, OutsidePlace::ASKBITS),
+        bid: float_at(zs, outside_place::BIDBITS),
+        ask: float_at(zs, outside_place::ASKBITS),
     }
 }
 
@@ -153,22 +153,22 @@ pub fn interest_of(zs: &[i64]) -> Interest
     ensures { result ≡ interest_of zs.now }
 {
     Interest {
-        b: number_at(zs, InterestPlace::B),
-        ym: number_at(zs, InterestPlace::YM),
-        yn: number_at(zs, InterestPlace::YN),
+        b: number_at(zs, interest_place::B),
+        ym: number_at(zs, interest_place::YM),
+        yn: number_at(zs, interest_place::YN),
         model: Model {
-            aup: number_at(zs, InterestPlace::A_UP),
-            adown: number_at(zs, InterestPlace::A_DOWN),
-            q: number_at(zs, InterestPlace::Q),
+            aup: number_at(zs, interest_place::A_UP),
+            adown: number_at(zs, interest_place::A_DOWN),
+            q: number_at(zs, interest_place::Q),
         },
-        h: number_at(zs, InterestPlace::H),
-        wait: number_at(zs, InterestPlace::WAIT),
-        liq: number_at(zs, InterestPlace::LIQ),
-        mm: number_at(zs, InterestPlace::MM),
-        sec: number_at(zs, InterestPlace::SEC),
-        xir: number_at(zs, InterestPlace::XIR),
-        money: signed_at(zs, InterestPlace::MONEY),
-        secrate: signed_at(zs, InterestPlace::SECRATE),
+        h: number_at(zs, interest_place::H),
+        wait: number_at(zs, interest_place::WAIT),
+        liq: number_at(zs, interest_place::LIQ),
+        mm: number_at(zs, interest_place::MM),
+        sec: number_at(zs, interest_place::SEC),
+        xir: number_at(zs, interest_place::XIR),
+        money: signed_at(zs, interest_place::MONEY),
+        secrate: signed_at(zs, interest_place::SECRATE),
     }
 }
 
@@ -204,35 +204,35 @@ pub fn call_of(zs: &[i64], kind: u64, p: Pairs, k: Kept) -> AskedCall
         return AskedCall::Admit(admission_of(zs));
     }
     if kind == CallKind::EVALUATE {
-        let id = number_at(zs, EvaluatePlace::ID);
+        let id = number_at(zs, evaluate_place::ID);
         return AskedCall::About(id, AskedAbout::Evaluate(asked_of(k, p, zs)));
     }
     if kind == CallKind::QUOTE {
-        let id = number_at(zs, QuotePlace::ID);
+        let id = number_at(zs, quote_place::ID);
         return AskedCall::About(id, AskedAbout::Quote(quote_of(zs)));
     }
     if kind == CallKind::MOVE {
-        let id = number_at(zs, MovePlace::ID);
-        return AskedCall::About(id, AskedAbout::Move(number_at(zs, MovePlace::SIDE)));
+        let id = number_at(zs, move_place::ID);
+        return AskedCall::About(id, AskedAbout::Move(number_at(zs, move_place::SIDE)));
     }
     if kind == CallKind::READ {
-        return AskedCall::About(number_at(zs, IdPlace::ID), AskedAbout::Read);
+        return AskedCall::About(number_at(zs, id_place::ID), AskedAbout::Read);
     }
     if kind == CallKind::OPEN {
-        return AskedCall::About(number_at(zs, IdPlace::ID), AskedAbout::Open);
+        return AskedCall::About(number_at(zs, id_place::ID), AskedAbout::Open);
     }
     if kind == CallKind::OUTSIDE {
-        let id = number_at(zs, OutsidePlace::ID);
+        let id = number_at(zs, outside_place::ID);
         return AskedCall::About(id, AskedAbout::Receive(outside_of(zs)));
     }
     if kind == CallKind::NOTICE {
-        let id = number_at(zs, NoticePlace::ID);
+        let id = number_at(zs, notice_place::ID);
         return notice_of(
             id,
-            number_at(zs, NoticePlace::SIDE),
-            float_at(zs, NoticePlace::BITS),
+            number_at(zs, notice_place::SIDE),
+            float_at(zs, notice_place::BITS),
         );
     }
-    let id = number_at(zs, IdPlace::ID);
+    let id = number_at(zs, id_place::ID);
     AskedCall::About(id, AskedAbout::Notify(Notice::Withdrawal))
 }

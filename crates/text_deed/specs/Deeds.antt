@@ -9,8 +9,9 @@ use Rattle.paper_interest.specs.Interest.{interest_answer}
 use Rattle.paper_bonds.specs.Bonds.{bond_answer}
 use Rattle.text_protocol.specs.declared.Ask.{Ask}
 use Rattle.text_protocol.specs.declared.Ask.TheVariants as ask
-use Rattle.text_protocol.specs.declared.Explained.{Explained}
-use Rattle.text_protocol.specs.declared.Explained.TheVariants.{No, Because}
+use Rattle.std.specs.declared.option.Option.{Option}
+use Rattle.std.specs.declared.option.Option.TheVariants.{None, Some}
+use Rattle.paper_reasons.specs.declared.Why.{Why}
 use Rattle.text_protocol.specs.declared.Kept.{Kept}
 use Rattle.text_protocol.specs.declared.Performed.{Performed}
 use Rattle.text_protocol.specs.declared.Role.{Role}
@@ -67,17 +68,17 @@ fault_shown role.Opening a = shown_text role.Opening a
 fault_shown role.Other a = shown_text role.Other a
 
 -- why a call of a role is answered as it is, or its answer where no reason is named
-unfoldable pub reason_for : Explained → Role → Performed → List ℕ
-reason_for No x p = fault_shown x p.answer
-reason_for (Because y) x p = why_text y
+unfoldable pub reason_for : Option Why → Role → Performed → List ℕ
+reason_for None x p = fault_shown x p.answer
+reason_for (Some y) x p = why_text y
 
 abbrev pub reason_said : Role → Performed → List ℕ
 reason_said x p = reason_for p.why x p
 
 -- the reasons that were said; none where no reason was asked for
-unfoldable pub reasons_in : Explained → WhyReasons
-reasons_in No = no_reasons
-reasons_in (Because y) = y.reasons
+unfoldable pub reasons_in : Option Why → WhyReasons
+reasons_in None = no_reasons
+reasons_in (Some y) = y.reasons
 
 -- what the n-th line, a call of a role, is told as, by what the desk said
 unfoldable pub call_said : Telling → (n : ℕ) → Role → Performed → List ℕ

@@ -14,7 +14,7 @@ ghost use Rattle.text_deed.specs.Deeds.{ask_count, line_count, AsksFor};
 
 use paper::{Answer, InterestAnswer, Verdict};
 use paper_bonds::BondAnswer;
-use paper_reasons::Reasons;
+use paper_reasons::{Reasons, Why};
 use record_reasons::fields::field_at_fault;
 use text_answer::interest_line::say_interest;
 use text_answer::why::{say_field, say_why};
@@ -26,9 +26,7 @@ use text_call::kept::kept_after;
 use text_call::{call_of, figures, interest_of};
 use text_evening::Telling;
 use text_line::Line;
-use text_protocol::{
-    Ask, BondPlace, CallKind, Explained, InterestPlace, Kept, Pairs, Performed, Role,
-};
+use text_protocol::{Ask, CallKind, Kept, Pairs, Performed, Role, bond_place, interest_place};
 
 // What the calls beside the table answer to a line, the interest side's and a bond's: only the one that the line asks
 // for counts.
@@ -110,7 +108,7 @@ pub fn deed_of(zs: &[i64], l: Line, k: Kept) -> LineDeed
         Ask::NoCall => of_desk(ask, k),
         Ask::Call(_) => of_desk(ask, k),
         Ask::Interest(given) => {
-            let i = interest::answer(given, figures(zs, InterestPlace::COUNT));
+            let i = interest::answer(given, figures(zs, interest_place::COUNT));
             LineDeed {
                 ask,
                 beside: of_interest(i),
@@ -118,7 +116,7 @@ pub fn deed_of(zs: &[i64], l: Line, k: Kept) -> LineDeed
             }
         }
         Ask::Bond(given) => {
-            let b = bond::answer(given, figures(zs, BondPlace::COUNT));
+            let b = bond::answer(given, figures(zs, bond_place::COUNT));
             LineDeed {
                 ask,
                 beside: of_bond(b),
@@ -178,21 +176,21 @@ fn say_reason(out: &mut [u8; ROOM], len: usize, role: Role, p: Performed) -> usi
 {
     let why = p.why;
     match why {
-        Explained::No => {
+        None => {
             let answer = p.answer;
             say_fault(out, len, role, answer)
         }
-        Explained::Because(reasons) => say_why(out, len, reasons),
+        Some(reasons) => say_why(out, len, reasons),
     }
 }
 
 // The reasons that were said; none where no reason was asked for.
-fn reasons_in(why: Explained) -> Reasons
+fn reasons_in(why: Option<Why>) -> Reasons
     ensures { result ≡ reasons_in why }
 {
     match why {
-        Explained::No => record_reasons::no_reasons(),
-        Explained::Because(said) => {
+        None => record_reasons::no_reasons(),
+        Some(said) => {
             let reasons = said.reasons;
             reasons
         }

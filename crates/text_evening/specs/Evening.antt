@@ -1,7 +1,8 @@
 -- docs/EVENING.md, "An evening": what lines do, one after the other, to the table and to what is kept, and what
 -- is answered to them.
 use Rattle.std.specs.Prelude.{List, [], ◌∷◌, ◌++◌, ℕ, ◌+◌, ltb, ℤ}
-use Rattle.std.proofs.Math.Option.{Option, none, some}
+use Rattle.std.specs.declared.option.Option.{Option}
+use Rattle.std.specs.declared.option.Option.TheVariants.{None, Some}
 use Rattle.paper.specs.declared.Record.{Record}
 use Rattle.paper.specs.declared.Day.{Day}
 use Rattle.paper.specs.Lists.{pick}
@@ -52,8 +53,8 @@ answer_to c t = call_text c (step c t).answer
 -- the same, but an evaluation is answered with why it is what it is, and an admission with the number of its line that
 -- is at fault
 abbrev pub reason_on : (id : ℕ) → Ask → Option (Day × List ℤ) → List Record → List ℕ
-reason_on id x none t = answer_to (about id x) t
-reason_on id x (some (d, rows)) t = why_text (why_on t id d rows)
+reason_on id x None t = answer_to (about id x) t
+reason_on id x (Some (d, rows)) t = why_text (why_on t id d rows)
 
 unfoldable pub reason_to : Call → List Record → List ℕ
 reason_to (admit g) t = field_text (step (admit g) t).answer.verdict (field_at_fault g)

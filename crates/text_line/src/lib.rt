@@ -10,8 +10,8 @@ ghost use Rattle.text_line.specs.ReadLine.{blank_line, bad_line, LineSays, line_
 
 use text_bytes::ROOM;
 use text_protocol::{
-    BondPlace, CALLS, COUNTS, CallKind, EvaluatePlace, Item, KEPT, LENGTHS, MORE, Pairs, WORD_ROOM,
-    WORDS,
+    CALLS, COUNTS, CallKind, Item, KEPT, LENGTHS, MORE, Pairs, WORD_ROOM, WORDS, bond_place,
+    evaluate_place,
 };
 use text_word::{past_blanks, past_word, same_bytes, word_at};
 
@@ -128,9 +128,9 @@ fn first_low(kind: u64) -> usize
     ensures { LowsAt kind result }
 {
     if kind == CallKind::BOND {
-        return BondPlace::RRCL0;
+        return bond_place::RRCL0;
     }
-    EvaluatePlace::RRCL0
+    evaluate_place::RRCL0
 }
 
 // A pair stands in a call with terms alone, in place of a term's RRCL RRCH.

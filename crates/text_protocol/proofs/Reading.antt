@@ -11,8 +11,8 @@ use lib.Seq.{take-append_seam}
 use borrow.Author.Tests.{le-leb, leb-true, ne_eqb, eqb-true, lt-ltb, le-ltb, ltb-true}
 use Rattle.paper.specs.Lists.{pick}
 use Rattle.paper.proofs.Logic.{and_left, and_right}
-use Rattle.text_bytes.specs.declared.Number.{Number}
-use Rattle.text_bytes.specs.declared.Number.TheVariants as number
+use Rattle.std.specs.declared.option.Option.{Option}
+use Rattle.std.specs.declared.option.Option.TheVariants.{None, Some}
 use Rattle.text_protocol.specs.declared.Item.{Item}
 use Rattle.text_protocol.specs.declared.Item.TheVariants as item
 use Rattle.text_protocol.specs.declared.Pairs.{Pairs}
@@ -197,27 +197,27 @@ reading_unique {l} {j} {k} {ys} {zs} {p} {q} a b =
 
 -- ---- what is read is written: a word behind the call's
 
-one_of_back : (x : Number) (z : ℤ) → one_of x ≡ item.One z → x ≡ number.Is z
+one_of_back : (x : Option ℤ) (z : ℤ) → one_of x ≡ item.One z → x ≡ Some z
 unfolding one_of
-one_of_back (number.Is y) z e = cc
-one_of_back number.Bad z e = impossible cc
+one_of_back (Some y) z e = cc
+one_of_back None z e = impossible cc
 
-one_not_two : {A : Type 0} (x : Number) (m n : ℤ) → one_of x ≡ item.Two m n → A
+one_not_two : {A : Type 0} (x : Option ℤ) (m n : ℤ) → one_of x ≡ item.Two m n → A
 unfolding one_of
-one_not_two (number.Is y) m n e = impossible cc
-one_not_two number.Bad m n e = impossible cc
+one_not_two (Some y) m n e = impossible cc
+one_not_two None m n e = impossible cc
 
-two_not_one : {A : Type 0} (x y : Number) (z : ℤ) → two_of x y ≡ item.One z → A
+two_not_one : {A : Type 0} (x y : Option ℤ) (z : ℤ) → two_of x y ≡ item.One z → A
 unfolding two_of
-two_not_one (number.Is a) (number.Is b) z e = impossible cc
-two_not_one (number.Is a) number.Bad z e = impossible cc
-two_not_one number.Bad y z e = impossible cc
+two_not_one (Some a) (Some b) z e = impossible cc
+two_not_one (Some a) None z e = impossible cc
+two_not_one None y z e = impossible cc
 
-two_of_back : (x y : Number) (m n : ℤ) → two_of x y ≡ item.Two m n → (x ≡ number.Is m) × (y ≡ number.Is n)
+two_of_back : (x y : Option ℤ) (m n : ℤ) → two_of x y ≡ item.Two m n → (x ≡ Some m) × (y ≡ Some n)
 unfolding two_of
-two_of_back (number.Is a) (number.Is b) m n e = (cc, cc)
-two_of_back (number.Is a) number.Bad m n e = impossible cc
-two_of_back number.Bad y m n e = impossible cc
+two_of_back (Some a) (Some b) m n e = (cc, cc)
+two_of_back (Some a) None m n e = impossible cc
+two_of_back None y m n e = impossible cc
 
 item_one_back : (w : List ℕ) (z : ℤ) → item_of w ≡ item.One z → Spells w z
 unfolding item_of
@@ -259,7 +259,7 @@ item_two_back w m n e = go (ltb (slash_at w) (length w)) refl e
     go true h f =
         let v : List ℕ = take (slash_at w) w in
         let u : List ℕ = drop (suc (slash_at w)) w in
-        let r : (number_of v ≡ number.Is m) × (number_of u ≡ number.Is n) = two_of_back (number_of v) (number_of u) m n f in
+        let r : (number_of v ≡ Some m) × (number_of u ≡ Some n) = two_of_back (number_of v) (number_of u) m n f in
         record {
           before = v;
           behind = u;

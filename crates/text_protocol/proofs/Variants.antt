@@ -3,7 +3,8 @@
 use mathlib.Core.Path.{◌≡◌, refl}
 use mathlib.Core.Bool.{not}
 use mathlib.Core.List.{List, [], ◌∷◌}
-use mathlib.Core.Option.{Option, none, some}
+use Rattle.std.specs.declared.option.Option.{Option}
+use Rattle.std.specs.declared.option.Option.TheVariants.{None, Some}
 use Prim.Native.Nat.{ℕ}
 use lib.Dec.{T}
 use lib.IntN.{ℤ}
@@ -52,8 +53,8 @@ variants_are_deeds c i b zs = (refl, refl, refl, refl, refl)
 
 -- what is evaluated of the security with an id
 abbrev pub of_id : (id : ℕ) → Option (Day × List ℤ) → Option (ℕ × (Day × List ℤ))
-of_id id none = none
-of_id id (some dayAndRows) = some (id, dayAndRows)
+of_id id None = None
+of_id id (Some dayAndRows) = Some (id, dayAndRows)
 
 -- the asks that have no role of their own, by their places in `AskedAbout`: a read, a receipt and a notice
 abbrev pub other_roles : List ℕ
@@ -63,7 +64,7 @@ other_roles = 3 ∷ 5 ∷ 6 ∷ []
 -- their own it is `Other`
 pub record ByRule (id : ℕ) (x : AskedAbout) (rows : List ℤ) : Type 0 where
   pub shows : (a : Answer) → figures_shown (role_about id x) a ≡ reply_numbers (rule_of (ask_of x rows)).reply a
-  pub admits : admitted_as (role_about id x) ≡ none
+  pub admits : admitted_as (role_about id x) ≡ None
   pub evaluates : evaluated_as (role_about id x) rows ≡ of_id id (rule_of (ask_of x rows)).evaluates
   pub moves : moved_as (role_about id x) ≡ (rule_of (ask_of x rows)).moves
   pub other : OneOf other_roles (tag_of X.the_type x) → role.Other ≡ role_about id x

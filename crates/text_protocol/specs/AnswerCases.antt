@@ -3,7 +3,7 @@
 use Rattle.std.specs.Prelude.{◌≡◌, refl, true, false, List, [], ◌∷◌, ◌++◌, map, ℕ, ◌+◌, pos, negsuc, replicate}
 use Rattle.paper.specs.declared.Standing.TheVariants.{Admitted, Live}
 use Rattle.paper.specs.declared.Session.TheVariants.{Evening}
-use Rattle.paper.specs.declared.Near.TheVariants.{Not, Since}
+use Rattle.std.specs.declared.option.Option.TheVariants.{None, Some}
 use Rattle.paper.specs.declared.Notice.TheVariants.{Withdrawal}
 use Rattle.paper.specs.declared.Record.{Record}
 use Rattle.paper.specs.declared.Answer.{Answer}
@@ -53,9 +53,9 @@ counted =
           record { lower = 53; upper = 54 } ∷ record { lower = 63; upper = 64 } ∷ record { lower = 73; upper = 74 } ∷ [];
       moves = record { upper = 81; lower = 82 };
       near =
-          record { top = Since 55; bottom = Since 56 }
-          ∷ record { top = Since 65; bottom = Since 66 }
-          ∷ record { top = Not; bottom = Since 76 }
+          record { top = Some 55; bottom = Some 56 }
+          ∷ record { top = Some 65; bottom = Some 66 }
+          ∷ record { top = None; bottom = Some 76 }
           ∷ [];
       second = 83;
       session = Evening 84;

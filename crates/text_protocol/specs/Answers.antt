@@ -7,8 +7,8 @@ use Rattle.paper.specs.declared.External.{External}
 use Rattle.paper.specs.declared.Rate.{Rate}
 use Rattle.paper.specs.declared.Tentative.{Tentative}
 use Rattle.paper.specs.declared.Limits.{Limits}
-use Rattle.paper.specs.declared.Near.{Near}
-use Rattle.paper.specs.declared.Near.TheVariants as near
+use Rattle.std.specs.declared.option.Option.{Option}
+use Rattle.std.specs.declared.option.Option.TheVariants.{None, Some}
 use Rattle.paper.specs.declared.NearSeconds.{NearSeconds}
 use Rattle.paper.specs.declared.Term.{Term}
 use Rattle.paper.specs.declared.Record.{Record}
@@ -46,9 +46,9 @@ flag true = pos 1
 flag false = pos 0
 
 -- near: the second, or -1
-unfoldable pub near_number : Near → ℤ
-near_number (near.Since second) = pos second
-near_number near.Not = negsuc 0
+unfoldable pub near_number : Option ℕ → ℤ
+near_number (Some second) = pos second
+near_number None = negsuc 0
 
 -- LIVE DAY
 unfoldable pub standing_numbers : Standing → List ℤ

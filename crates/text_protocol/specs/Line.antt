@@ -2,8 +2,8 @@
 use Rattle.std.specs.Prelude.{Bool, false, ◌&&◌, ◌||◌, List, [], ◌∷◌, ◌++◌, ℕ, suc, ◌+◌, ◌-◌, leb, ltb, eqb, ℤ, length, take, drop}
 use Rattle.paper.specs.Lists.{pick}
 use Rattle.paper.specs.Numbers.{all_numbers_most}
-use Rattle.text_bytes.specs.declared.Number.{Number}
-use Rattle.text_bytes.specs.declared.Number.TheVariants as number
+use Rattle.std.specs.declared.option.Option.{Option}
+use Rattle.std.specs.declared.option.Option.TheVariants.{None, Some}
 use Rattle.text_protocol.specs.declared.Item.{Item}
 use Rattle.text_protocol.specs.declared.Item.TheVariants as item
 use Rattle.text_protocol.specs.declared.Pairs.{Pairs}
@@ -12,14 +12,14 @@ use Rattle.text_bytes.specs.Numbers.{number_of, slash_at}
 use Rattle.text_protocol.specs.Names.{Name, evaluate_kind, bond_kind, evaluate_names, evaluate_count, bond_names}
 use Rattle.text_protocol.specs.Names.{place_of, RRCL0, RRCL1, RRCL2, kind_of, takes}
 
-unfoldable pub one_of : Number → Item
-one_of (number.Is z) = item.One z
-one_of number.Bad = item.Neither
+unfoldable pub one_of : Option ℤ → Item
+one_of (Some z) = item.One z
+one_of None = item.Neither
 
-unfoldable pub two_of : Number → Number → Item
-two_of (number.Is m) (number.Is n) = item.Two m n
-two_of (number.Is m) number.Bad = item.Neither
-two_of number.Bad n = item.Neither
+unfoldable pub two_of : Option ℤ → Option ℤ → Item
+two_of (Some m) (Some n) = item.Two m n
+two_of (Some m) None = item.Neither
+two_of None n = item.Neither
 
 -- two numbers with a slash and no blank between them, or one number
 unfoldable pub item_of : List ℕ → Item

@@ -8,10 +8,10 @@ use Rattle.paper_reasons.specs.declared.WeightReason.TheVariants as weight
 use Rattle.paper_reasons.specs.declared.ReplacementReason.TheVariants as replacement
 use Rattle.paper_reasons.specs.declared.TentativeReason.TheVariants as tentative
 use Rattle.paper_reasons.specs.declared.LevelReason.TheVariants as level
-use Rattle.paper_reasons.specs.declared.Decided.TheVariants as decided
+use Rattle.std.specs.declared.option.Option.{Option}
+use Rattle.std.specs.declared.option.Option.TheVariants.{None, Some}
 use Rattle.paper_reasons.specs.declared.Fault.{Fault}
 use Rattle.paper_reasons.specs.declared.Fault.TheVariants as fault
-use Rattle.paper_reasons.specs.declared.FieldAtFault.TheVariants as field
 use Rattle.paper_reasons.specs.declared.Reasons.{Reasons}
 use Rattle.paper.specs.declared.Verdict.{Verdict}
 use Rattle.paper_reasons.specs.Words.{price_word, weight_word, replacement_word, tentative_word, level_word}
@@ -31,7 +31,7 @@ rising =
       level1 = level.Requirement;
       level2 = level.Requirement;
       level3 = level.Minimum;
-      figures = decided.By (record { r = 20001; before = 19998; x = 19999; y = 6667; s = 20002; t = 700 });
+      figures = Some (record { r = 20001; before = 19998; x = 19999; y = 6667; s = 20002; t = 700 });
     }
 
 abbrev unmodelled : Reasons
@@ -44,7 +44,7 @@ unmodelled =
       level1 = level.Minimum;
       level2 = level.Minimum;
       level3 = level.Minimum;
-      figures = decided.None;
+      figures = None;
     }
 
 abbrev none : Reasons
@@ -57,23 +57,23 @@ none =
       level1 = level.None;
       level2 = level.None;
       level3 = level.None;
-      figures = decided.None;
+      figures = None;
     }
 
 -- the bytes that say why
-said : Verdict → Fault → Reasons → List ℕ
+said : Verdict → Option Fault → Reasons → List ℕ
 said v f r = why_text (record { verdict = v; fault = f; reasons = r })
 
 pub answers_why : List (List ℕ)
 unfolding said why_text words_text spelled figure_words reason_words fault_words price_word weight_word replacement_word
     tentative_word level_word decimal spelt is_done
 answers_why =
-    said verdict.Done fault.None rising
-    ∷ said verdict.Done fault.None unmodelled
-    ∷ said verdict.OutOfRange (fault.Row 3) none
-    ∷ said verdict.RowCrossed (fault.Row 16) none
-    ∷ said verdict.BandCrossed (fault.Term 1) none
-    ∷ said verdict.DayNotAfter fault.None none
+    said verdict.Done None rising
+    ∷ said verdict.Done None unmodelled
+    ∷ said verdict.OutOfRange (Some (fault.Row 3)) none
+    ∷ said verdict.RowCrossed (Some (fault.Row 16)) none
+    ∷ said verdict.BandCrossed (Some (fault.Term 1)) none
+    ∷ said verdict.DayNotAfter None none
     ∷ []
 
 pub answers_why_are : answers_why
@@ -93,9 +93,9 @@ answers_why_are = refl
 pub answers_to_admissions : List (List ℕ)
 unfolding field_text field_words words_text spelled decimal spelt
 answers_to_admissions =
-    field_text verdict.Done field.None
-    ∷ field_text verdict.AdmissionOutOfRange (field.Number 32)
-    ∷ field_text verdict.AlreadyAdmitted field.None
+    field_text verdict.Done None
+    ∷ field_text verdict.AdmissionOutOfRange (Some 32)
+    ∷ field_text verdict.AlreadyAdmitted None
     ∷ []
 
 pub answers_to_admissions_are : answers_to_admissions ≡ bytes "0\n" ∷ bytes "4 field 32\n" ∷ bytes "2\n" ∷ []

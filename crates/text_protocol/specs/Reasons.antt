@@ -5,13 +5,11 @@ use Rattle.std.specs.Prelude.{List, [], ◌∷◌, ◌++◌, ℕ}
 use Rattle.paper.specs.declared.Verdict.{Verdict}
 use Rattle.paper.specs.Lists.{pick}
 use Rattle.paper.specs.Verdicts.{number_of, is_done}
+use Rattle.std.specs.declared.option.Option.{Option}
+use Rattle.std.specs.declared.option.Option.TheVariants.{None, Some}
 use Rattle.paper_reasons.specs.declared.Fault.{Fault}
 use Rattle.paper_reasons.specs.declared.Fault.TheVariants as fault
 use Rattle.paper_reasons.specs.declared.Deciding.{Deciding}
-use Rattle.paper_reasons.specs.declared.Decided.{Decided}
-use Rattle.paper_reasons.specs.declared.Decided.TheVariants as decided
-use Rattle.paper_reasons.specs.declared.FieldAtFault.{FieldAtFault}
-use Rattle.paper_reasons.specs.declared.FieldAtFault.TheVariants as field
 use Rattle.paper_reasons.specs.declared.Reasons.{Reasons}
 use Rattle.paper_reasons.specs.declared.Why.{Why}
 use Rattle.paper_reasons.specs.Words.{none_word, price_word, weight_word, replacement_word, tentative_word, level_word}
@@ -63,9 +61,9 @@ deciding_words f =
     ∷ []
 
 -- nothing where none did
-unfoldable pub figure_words : Decided → List (List ℕ)
-figure_words decided.None = []
-figure_words (decided.By f) = deciding_words f
+unfoldable pub figure_words : Option Deciding → List (List ℕ)
+figure_words None = []
+figure_words (Some f) = deciding_words f
 
 -- of an accepted evaluation: what is named, and its reason; then the figures that decided
 unfoldable pub reason_words : Reasons → List (List ℕ)
@@ -80,15 +78,15 @@ reason_words r =
     ∷ figure_words r.figures
 
 -- of a refused one: the row or the term at fault, or none
-unfoldable pub fault_words : Fault → List (List ℕ)
-fault_words fault.None = none_word ∷ []
-fault_words (fault.Row number) = row_name ∷ decimal number ∷ []
-fault_words (fault.Term number) = term_name ∷ decimal number ∷ []
+unfoldable pub fault_words : Option Fault → List (List ℕ)
+fault_words None = none_word ∷ []
+fault_words (Some (fault.Row number)) = row_name ∷ decimal number ∷ []
+fault_words (Some (fault.Term number)) = term_name ∷ decimal number ∷ []
 
 -- of an admission: the number of the line that is at fault, or nothing
-unfoldable pub field_words : FieldAtFault → List (List ℕ)
-field_words field.None = []
-field_words (field.Number place) = field_name ∷ decimal place ∷ []
+unfoldable pub field_words : Option ℕ → List (List ℕ)
+field_words None = []
+field_words (Some place) = field_name ∷ decimal place ∷ []
 
 -- ---- the bytes
 
@@ -107,5 +105,5 @@ why_text y =
     words_text (number_of y.verdict) (pick (is_done y.verdict) (reason_words y.reasons) (fault_words y.fault))
 
 -- AND THOSE OF AN ADMISSION: its number, and the number of the line that is at fault
-unfoldable pub field_text : Verdict → FieldAtFault → List ℕ
+unfoldable pub field_text : Verdict → Option ℕ → List ℕ
 field_text v field = words_text (number_of v) (field_words field)

@@ -1,6 +1,7 @@
 -- What is answered to a call, by its role (`role_of`, Calls.antt): the text goes by the role, and not by the call.
 use Rattle.std.specs.Prelude.{Bool, true, false, List, [], ◌∷◌, ℕ, ℤ}
-use Rattle.std.proofs.Math.Option.{Option, none, some}
+use Rattle.std.specs.declared.option.Option.{Option}
+use Rattle.std.specs.declared.option.Option.TheVariants.{None, Some}
 use Rattle.paper.specs.declared.Admission.{Admission}
 use Rattle.paper.specs.declared.Answer.{Answer}
 use Rattle.paper.specs.declared.Day.{Day}
@@ -30,30 +31,30 @@ shown_text x r = answer_text (number_of r.verdict) (pick (is_done r.verdict) (fi
 
 -- an admission
 unfoldable pub admitted_as : Role → Option Admission
-admitted_as (role.Admission a) = some a
-admitted_as (role.Evaluation id d) = none
-admitted_as role.Quote = none
-admitted_as (role.Move side) = none
-admitted_as role.Opening = none
-admitted_as role.Other = none
+admitted_as (role.Admission a) = Some a
+admitted_as (role.Evaluation id d) = None
+admitted_as role.Quote = None
+admitted_as (role.Move side) = None
+admitted_as role.Opening = None
+admitted_as role.Other = None
 
 -- an evaluation: its id, its day and its rows
 unfoldable pub evaluated_as : Role → (rows : List ℤ) → Option (ℕ × (Day × List ℤ))
-evaluated_as (role.Admission a) rows = none
-evaluated_as (role.Evaluation id d) rows = some (id, (day_of d, rows))
-evaluated_as role.Quote rows = none
-evaluated_as (role.Move side) rows = none
-evaluated_as role.Opening rows = none
-evaluated_as role.Other rows = none
+evaluated_as (role.Admission a) rows = None
+evaluated_as (role.Evaluation id d) rows = Some (id, (day_of d, rows))
+evaluated_as role.Quote rows = None
+evaluated_as (role.Move side) rows = None
+evaluated_as role.Opening rows = None
+evaluated_as role.Other rows = None
 
 -- a move: its side
 unfoldable pub moved_as : Role → Option Side
-moved_as (role.Admission a) = none
-moved_as (role.Evaluation id d) = none
-moved_as role.Quote = none
-moved_as (role.Move side) = some side
-moved_as role.Opening = none
-moved_as role.Other = none
+moved_as (role.Admission a) = None
+moved_as (role.Evaluation id d) = None
+moved_as role.Quote = None
+moved_as (role.Move side) = Some side
+moved_as role.Opening = None
+moved_as role.Other = None
 
 -- an opening of the evening
 unfoldable pub is_opening : Role → Bool

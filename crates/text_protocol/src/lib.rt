@@ -6,9 +6,7 @@
 ghost use Rattle.std.specs.Prelude.{◌≡◌};
 ghost use Rattle.text_protocol.specs.Calls.{role_of};
 
-use paper::{
-    Admission, Answer, AskedAbout, AskedDay, Interest, Row, Side, Statics, WorkedBand, side_of,
-};
+use paper::{Admission, Answer, AskedAbout, AskedDay, Interest, Row, Side, WorkedBand};
 use paper_bonds::Bond;
 use paper_reasons::Why;
 use text_bytes::ROOM;
@@ -23,15 +21,12 @@ pub const WAITING_MOST: usize = ROOM - ANSWER_MOST;
 
 // COUNT is how many there are; of an evaluation, an interest line and a bond, how many stand before the row figures,
 // the key maturities and the cash flows. Whoever reads a number at one of these places is proved to read the one of the
-// name, so that a wrong place is refused there. Each of these types is a list of places: no value of it is made.
+// name, so that a wrong place is refused there.
 
 // An admission: its statics stand behind its other numbers.
-#[derive(Clone, Copy)]
-pub struct AdmitPlace {
-    pub place: usize,
-}
+pub mod admit_place {
+    use paper::Statics;
 
-impl AdmitPlace {
     pub const ID: usize = 0;
 
     pub const DAY: usize = 1;
@@ -46,16 +41,11 @@ impl AdmitPlace {
 
     pub const STATICS: usize = 6;
 
-    pub const COUNT: usize = AdmitPlace::STATICS + Statics::COUNT;
+    pub const COUNT: usize = STATICS + Statics::COUNT;
 }
 
 // An evaluation. RRCL and RRCH stand behind the days K of their term.
-#[derive(Clone, Copy)]
-pub struct EvaluatePlace {
-    pub place: usize,
-}
-
-impl EvaluatePlace {
+pub mod evaluate_place {
     pub const ID: usize = 0;
 
     pub const DAY: usize = 1;
@@ -76,12 +66,7 @@ impl EvaluatePlace {
 }
 
 // A quote.
-#[derive(Clone, Copy)]
-pub struct QuotePlace {
-    pub place: usize,
-}
-
-impl QuotePlace {
+pub mod quote_place {
     pub const ID: usize = 0;
 
     pub const SECOND: usize = 1;
@@ -96,12 +81,7 @@ impl QuotePlace {
 }
 
 // A move.
-#[derive(Clone, Copy)]
-pub struct MovePlace {
-    pub place: usize,
-}
-
-impl MovePlace {
+pub mod move_place {
     pub const ID: usize = 0;
 
     pub const SIDE: usize = 1;
@@ -110,24 +90,14 @@ impl MovePlace {
 }
 
 // A call about an id alone: a read, an opening, a withdrawal.
-#[derive(Clone, Copy)]
-pub struct IdPlace {
-    pub place: usize,
-}
-
-impl IdPlace {
+pub mod id_place {
     pub const ID: usize = 0;
 
     pub const COUNT: usize = 1;
 }
 
 // What the outside source sends: a bid and an ask together, and a notice of one side.
-#[derive(Clone, Copy)]
-pub struct OutsidePlace {
-    pub place: usize,
-}
-
-impl OutsidePlace {
+pub mod outside_place {
     pub const ID: usize = 0;
 
     pub const BIDBITS: usize = 1;
@@ -137,12 +107,7 @@ impl OutsidePlace {
     pub const COUNT: usize = 3;
 }
 
-#[derive(Clone, Copy)]
-pub struct NoticePlace {
-    pub place: usize,
-}
-
-impl NoticePlace {
+pub mod notice_place {
     pub const ID: usize = 0;
 
     pub const SIDE: usize = 1;
@@ -153,12 +118,7 @@ impl NoticePlace {
 }
 
 // An interest line.
-#[derive(Clone, Copy)]
-pub struct InterestPlace {
-    pub place: usize,
-}
-
-impl InterestPlace {
+pub mod interest_place {
     pub const B: usize = 0;
 
     pub const YM: usize = 1;
@@ -191,12 +151,7 @@ impl InterestPlace {
 }
 
 // A bond. RRCL and RRCH stand behind the days K of their term, as in an evaluation.
-#[derive(Clone, Copy)]
-pub struct BondPlace {
-    pub place: usize,
-}
-
-impl BondPlace {
+pub mod bond_place {
     pub const M: usize = 0;
 
     pub const NET: usize = 1;
@@ -257,7 +212,7 @@ impl BondPlace {
 }
 
 // The numbers that a line keeps: those of an evaluation and its row figures, with one figure more than a day may have.
-pub const KEPT: usize = EvaluatePlace::COUNT + Row::ALL_NUMBERS_MOST + 1;
+pub const KEPT: usize = evaluate_place::COUNT + Row::ALL_NUMBERS_MOST + 1;
 
 // The place of a call in the table of the calls' forms (specs/Names.antt), counted from 1. A line's word is looked up
 // by it; once a line is read, `Ask` says what it asks for.
@@ -300,17 +255,17 @@ impl CallKind {
 pub const CALLS: usize = 11;
 
 pub const COUNTS: [usize; CALLS] = [
-    AdmitPlace::COUNT,
-    EvaluatePlace::COUNT,
-    QuotePlace::COUNT,
-    MovePlace::COUNT,
-    IdPlace::COUNT, // read
-    IdPlace::COUNT, // open
-    OutsidePlace::COUNT,
-    NoticePlace::COUNT,
-    IdPlace::COUNT, // withdraw
-    InterestPlace::COUNT,
-    BondPlace::COUNT,
+    admit_place::COUNT,
+    evaluate_place::COUNT,
+    quote_place::COUNT,
+    move_place::COUNT,
+    id_place::COUNT, // read
+    id_place::COUNT, // open
+    outside_place::COUNT,
+    notice_place::COUNT,
+    id_place::COUNT, // withdraw
+    interest_place::COUNT,
+    bond_place::COUNT,
 ];
 
 pub const MORE: [bool; CALLS] = [
@@ -369,8 +324,8 @@ pub struct Pairs {
     pub third: bool,
 }
 
-// A call of the desk: it admits a security, or asks something about the one with an id. The row figures of an evaluation
-// are lent beside it.
+// A call of the desk: it admits a security, or asks something about the one with an id. The row figures of an
+// evaluation are lent beside it. Neither is an error, so it is no `Result`.
 #[derive(Clone, Copy)]
 pub enum AskedCall {
     Admit(Admission),
@@ -405,7 +360,7 @@ impl AskedCall {
             AskedCall::About(id, x) => match x {
                 AskedAbout::Evaluate(d) => Role::Evaluation(id, d),
                 AskedAbout::Quote(_) => Role::Quote,
-                AskedAbout::Move(side) => Role::Move(side_of(side)),
+                AskedAbout::Move(side) => Role::Move(Side::from(side)),
                 AskedAbout::Open => Role::Opening,
                 _ => Role::Other,
             },
@@ -425,16 +380,10 @@ pub enum Ask {
     Bond(Bond),
 }
 
-// Why an answer is what it is, where that was asked of a call that has reasons.
-#[derive(Clone, Copy)]
-pub enum Explained {
-    No,
-    Because(Why),
-}
-
-// What the desk says to a line. The answer counts only where the line is a call of the desk.
+// What the desk says to a line. The answer counts only where the line is a call of the desk; it has a reason where one
+// was asked for and the call has reasons.
 #[derive(Clone, Copy)]
 pub struct Performed {
     pub answer: Answer,
-    pub why: Explained,
+    pub why: Option<Why>,
 }

@@ -2,7 +2,8 @@
 use mathlib.Core.Path.{◌≡◌, refl, sym, ap, ◌∙◌}
 use mathlib.Core.Bool.{Bool, true, false}
 use mathlib.Core.List.{List, [], ◌∷◌, ◌++◌}
-use mathlib.Core.Option.{Option, none, some}
+use Rattle.std.specs.declared.option.Option.{Option}
+use Rattle.std.specs.declared.option.Option.TheVariants.{None, Some}
 use Prim.Native.Nat.{ℕ}
 use native.Mathlib.Omega.{arith}
 use lib.Dec.{ltb}
@@ -55,12 +56,12 @@ use Rattle.text_ask.specs.WithReasons.{explanation, Performs, Asks}
 module _ (rows : List ℤ) (a : Answer) (y : WhyReasons) where
   -- what is sent of a role: the statics, the rates, bands and reasons, the move, the session
   abbrev of_admission : Option Admission → List Message
-  of_admission none = []
-  of_admission (some g) = statics_message g.id (statics_of g.given) ∷ []
+  of_admission None = []
+  of_admission (Some g) = statics_message g.id (statics_of g.given) ∷ []
 
   abbrev of_evaluated : Option (ℕ × (Day × List ℤ)) → List Message
-  of_evaluated none = []
-  of_evaluated (some evaluated) = rates_message a.rec ∷ bands_message a.rec ∷ reasons_message a.rec y ∷ []
+  of_evaluated None = []
+  of_evaluated (Some evaluated) = rates_message a.rec ∷ bands_message a.rec ∷ reasons_message a.rec y ∷ []
 
   abbrev of_opened : Bool → List Message
   of_opened opens = pick opens (session_message a.rec ∷ []) []
@@ -78,8 +79,8 @@ module _ (rows : List ℤ) (a : Answer) (y : WhyReasons) where
   sent_as role.Other = refl
 
   of_id_sends : (id : ℕ) (e : Option (Day × List ℤ)) → of_evaluated (of_id id e) ≡ of_evaluation e a y
-  of_id_sends id none = refl
-  of_id_sends id (some dayAndRows) = refl
+  of_id_sends id None = refl
+  of_id_sends id (Some dayAndRows) = refl
 
   -- an opening sends what an opening of the desk does
   opened_sends : (id : ℕ) (x : AskedAbout) → of_opened (is_opening (role_about id x)) ≡ of_opening (ask_of x rows) a
@@ -112,17 +113,17 @@ module _ (rows : List ℤ) (a : Answer) (y : WhyReasons) where
 
 -- what a call of a role is told as with reasons: only an evaluation has them
 unfoldable reason_shown : Option (ℕ × (Day × List ℤ)) → (answer : List ℕ) → List Record → List ℕ
-reason_shown none answer t = answer
-reason_shown (some (id, (d, rows))) answer t = why_text (why_on t id d rows)
+reason_shown None answer t = answer
+reason_shown (Some (id, (d, rows))) answer t = why_text (why_on t id d rows)
 
 of_id_reasons : (id : ℕ) (x : DeskAsk) (e : Option (Day × List ℤ)) (t : List Record)
     → reason_shown (of_id id e) (answer_to (about id x) t) t ≡ reason_on id x e t
 unfolding reason_shown
-of_id_reasons id x none t = refl
-of_id_reasons id x (some (d, rows)) t = refl
+of_id_reasons id x None t = refl
+of_id_reasons id x (Some (d, rows)) t = refl
 
 -- of a call that is no admission
-reasons_by_role : (c : AskedCall) (rows : List ℤ) (t : List Record) → admitted_as (role_of c) ≡ none
+reasons_by_role : (c : AskedCall) (rows : List ℤ) (t : List Record) → admitted_as (role_of c) ≡ None
     → reason_shown (evaluated_as (role_of c) rows) (answer_to (call_asked c rows) t) t ≡ reason_to (call_asked c rows) t
 unfolding call_asked role_of admitted_as evaluated_as reason_to reason_shown
 reasons_by_role (Admit g) rows t e = absurd (let z : ◌≡◌ {A = ℕ} 0 1 = cc in omega arith)
@@ -130,7 +131,7 @@ reasons_by_role (About id x) rows t e =
     rw (role_by_rule id x rows).evaluates (of_id_reasons id (ask_of x rows) (rule_of (ask_of x rows)).evaluates t)
 
 -- only an admission has a number at fault
-fault_of_lem : (x : Role) (a : Answer) → admitted_as x ≡ none → fault_shown x a ≡ shown_text x a
+fault_of_lem : (x : Role) (a : Answer) → admitted_as x ≡ None → fault_shown x a ≡ shown_text x a
 unfolding fault_shown admitted_as
 fault_of_lem (role.Admission g) a e = absurd (let z : ◌≡◌ {A = ℕ} 0 1 = cc in omega arith)
 fault_of_lem (role.Evaluation id d) a e = refl
@@ -141,12 +142,12 @@ fault_of_lem role.Other a e = refl
 
 -- the reasons of an evaluation on a table
 abbrev reasons_at : Option (ℕ × (Day × List ℤ)) → List Record → WhyReasons
-reasons_at none t = no_reasons
-reasons_at (some (id, (d, rows))) t = (why_on t id d rows).reasons
+reasons_at None t = no_reasons
+reasons_at (Some (id, (d, rows))) t = (why_on t id d rows).reasons
 
 of_id_day : (id : ℕ) (e : Option (Day × List ℤ)) (t : List Record) → reasons_at (of_id id e) t ≡ of_day id e t
-of_id_day id none t = refl
-of_id_day id (some (d, rows)) t = refl
+of_id_day id None t = refl
+of_id_day id (Some (d, rows)) t = refl
 
 -- ---- what is told from a line on
 
@@ -192,7 +193,7 @@ module _ (rows : List ℤ) (p : Performed) (t t' : List Record) where
   faulted g e y = rw (y, e)
 
   -- and of every other call
-  unfaulted : (c : AskedCall) → admitted_as (role_of c) ≡ none → p.answer ≡ (step (call_asked c rows) t).answer
+  unfaulted : (c : AskedCall) → admitted_as (role_of c) ≡ None → p.answer ≡ (step (call_asked c rows) t).answer
       → p.why ≡ explanation (role_of c) rows t → reason_for p.why (role_of c) p ≡ reason_to (call_asked c rows) t
   unfaulted c n e y =
       reason_of_lem (role_of c) y
@@ -220,7 +221,7 @@ module _ (rows : List ℤ) (p : Performed) (t t' : List Record) where
   reasons_before_lem : (c : AskedCall) → p.why ≡ explanation (role_of c) rows t
       → reasons_in p.why ≡ reasons_before (call_asked c rows) t
   unfolding call_asked role_of evaluated_as reasons_before
-  reasons_before_lem (Admit g) y = reasons_in_lem (role.Admission g) none refl y
+  reasons_before_lem (Admit g) y = reasons_in_lem (role.Admission g) None refl y
   reasons_before_lem (About id x) y =
       reasons_in_lem (role_about id x) (of_id id (rule_of (ask_of x rows)).evaluates) (role_by_rule id x rows).evaluates y
       ∙ of_id_day id (rule_of (ask_of x rows)).evaluates t

@@ -17,7 +17,7 @@ use text_deed::{Beside, asks_why, deed_of};
 use text_evening::Telling;
 use text_evidence::Written;
 use text_input::{Input, hear};
-use text_protocol::{Ask, EvaluatePlace, Kept};
+use text_protocol::{Ask, Kept, evaluate_place};
 
 // What goes on from line to line: what is left of the input, the number of the next line, what is kept of the interest
 // lines, how many bytes of answers wait to be written, the evidence of what was handed to `write`, how lines are told,
@@ -90,7 +90,7 @@ pub fn rows_of(xs: &[i64], count: usize) -> &[i64]
     ensures { result.now ≡ drop evaluate_count (take count xs.now) }
 {
     let end = count.min(xs.len());
-    figures(&xs[..end], EvaluatePlace::COUNT)
+    figures(&xs[..end], evaluate_place::COUNT)
 }
 
 // The sum of `begin`.

@@ -11,10 +11,8 @@ use lib.Seq.{take_all}
 use borrow.Author.Tests.{leb-true, lt-ltb, le-ltb, eqb-true, ne_eqb}
 use Rattle.paper.specs.Lists.{pick}
 use Rattle.paper.proofs.Logic.{and_left}
-use Rattle.text_bytes.specs.declared.Number.{Number}
-use Rattle.text_bytes.specs.declared.Number.TheVariants as number
-use Rattle.text_bytes.specs.declared.Size.{Size}
-use Rattle.text_bytes.specs.declared.Size.TheVariants as size
+use Rattle.std.specs.declared.option.Option.{Option}
+use Rattle.std.specs.declared.option.Option.TheVariants.{None, Some}
 use Rattle.text_protocol.specs.declared.Item.TheVariants as item
 use Rattle.text_bytes.specs.Bytes.{is_not, run, digit_zero, digit_nine, minus_sign, slash}
 use Rattle.text_bytes.specs.Numbers.{is_digit, size_from, size_of, up_to, above, below, number_of, slash_at, greatest, least}
@@ -30,41 +28,41 @@ digit_no_slash b e =
     apart : digit_zero ≤ b → b ≡ slash → ⊥
     apart h q = omega arith
 
-size_no_slash : (n : ℕ) (t : List ℕ) (m : ℕ) → size_from n t ≡ size.Is m → run (is_not slash) t ≡ length t
+size_no_slash : (n : ℕ) (t : List ℕ) (m : ℕ) → size_from n t ≡ Some m → run (is_not slash) t ≡ length t
 unfolding size_from run
 size_no_slash n [] m e = refl
 size_no_slash n (b ∷ t) m e = go (is_digit b) refl e (λ h. size_no_slash (10 * n + (b - digit_zero)) t m h)
   where
-    go : (x : Bool) → is_digit b ≡ x → pick x (size_from (10 * n + (b - digit_zero)) t) size.Bad ≡ size.Is m
-        → (size_from (10 * n + (b - digit_zero)) t ≡ size.Is m → run (is_not slash) t ≡ length t)
+    go : (x : Bool) → is_digit b ≡ x → pick x (size_from (10 * n + (b - digit_zero)) t) None ≡ Some m
+        → (size_from (10 * n + (b - digit_zero)) t ≡ Some m → run (is_not slash) t ≡ length t)
         → pick (is_not slash b) (suc (run (is_not slash) t)) 0 ≡ suc (length t)
     go true d h f = rw (digit_no_slash b d) (ap suc (f h))
     go false d h f = let z : ◌≡◌ {A = ℕ} 0 1 = cc in let y : ⊥ = omega arith in absurd y
 
-up_to_is : (most : ℕ) (s : Size) (m : ℕ) → up_to most s ≡ size.Is m → s ≡ size.Is m
+up_to_is : (most : ℕ) (s : Option ℕ) (m : ℕ) → up_to most s ≡ Some m → s ≡ Some m
 unfolding up_to
-up_to_is most size.Bad m e = e
-up_to_is most (size.Is n) m e = go (leb n most) e
+up_to_is most None m e = e
+up_to_is most (Some n) m e = go (leb n most) e
   where
-    go : (x : Bool) → pick x (size.Is n) size.Bad ≡ size.Is m → size.Is n ≡ size.Is m
+    go : (x : Bool) → pick x (Some n) None ≡ Some m → Some n ≡ Some m
     go true h = h
     go false h = let z : ◌≡◌ {A = ℕ} 0 1 = cc in let y : ⊥ = omega arith in absurd y
 
 -- what is a number has a size
-pub record Sized (s : Size) : Type 0 where
+pub record Sized (s : Option ℕ) : Type 0 where
   pub count : ℕ
-  pub is : s ≡ size.Is count
+  pub is : s ≡ Some count
 
-above_sized : (s : Size) (z : ℤ) → above s ≡ number.Is z → Sized s
+above_sized : (s : Option ℕ) (z : ℤ) → above s ≡ Some z → Sized s
 unfolding above
-above_sized (size.Is n) z e = record { count = n; is = refl }
-above_sized size.Bad z e = let q : ◌≡◌ {A = ℕ} 0 1 = cc in let y : ⊥ = omega arith in absurd y
+above_sized (Some n) z e = record { count = n; is = refl }
+above_sized None z e = let q : ◌≡◌ {A = ℕ} 0 1 = cc in let y : ⊥ = omega arith in absurd y
 
-below_sized : (s : Size) (z : ℤ) → below s ≡ number.Is z → Sized s
+below_sized : (s : Option ℕ) (z : ℤ) → below s ≡ Some z → Sized s
 unfolding below
-below_sized (size.Is zero) z e = record { count = 0; is = refl }
-below_sized (size.Is (suc n)) z e = record { count = suc n; is = refl }
-below_sized size.Bad z e = let q : ◌≡◌ {A = ℕ} 0 1 = cc in let y : ⊥ = omega arith in absurd y
+below_sized (Some zero) z e = record { count = 0; is = refl }
+below_sized (Some (suc n)) z e = record { count = suc n; is = refl }
+below_sized None z e = let q : ◌≡◌ {A = ℕ} 0 1 = cc in let y : ⊥ = omega arith in absurd y
 
 sized_no_slash : (most : ℕ) (t : List ℕ) → Sized (up_to most (size_of t)) → run (is_not slash) t ≡ length t
 unfolding size_of run
@@ -84,29 +82,29 @@ minus_first : (b : ℕ) (t : List ℕ) → eqb b minus_sign ≡ true → run (is
 unfolding run
 minus_first b t d h = rw (minus_no_slash b d) (ap suc h)
 
-number_no_slash : (w : List ℕ) (z : ℤ) → number_of w ≡ number.Is z → slash_at w ≡ length w
+number_no_slash : (w : List ℕ) (z : ℤ) → number_of w ≡ Some z → slash_at w ≡ length w
 unfolding number_of slash_at
 number_no_slash [] z e = let q : ◌≡◌ {A = ℕ} 0 1 = cc in let y : ⊥ = omega arith in absurd y
 number_no_slash (b ∷ t) z e = go (eqb b minus_sign) refl e
   where
     go : (x : Bool) → eqb b minus_sign ≡ x
-        → pick x (below (up_to least (size_of t))) (above (up_to greatest (size_of (b ∷ t)))) ≡ number.Is z
+        → pick x (below (up_to least (size_of t))) (above (up_to greatest (size_of (b ∷ t)))) ≡ Some z
         → run (is_not slash) (b ∷ t) ≡ suc (length t)
     go true d h = minus_first b t d (sized_no_slash least t (below_sized (up_to least (size_of t)) z h))
     go false d h = sized_no_slash greatest (b ∷ t) (above_sized (up_to greatest (size_of (b ∷ t))) z h)
 
 -- ---- the pair
 
-pub first_bad : (x y : Number) → x ≡ number.Bad → item.Neither ≡ two_of x y
+pub first_bad : (x y : Option ℤ) → x ≡ None → item.Neither ≡ two_of x y
 unfolding two_of
 first_bad x y e = rw e
 
-module _ (x y : Number) (m : ℤ) (e : x ≡ number.Is m) where
-  pub second_bad : y ≡ number.Bad → item.Neither ≡ two_of x y
+module _ (x y : Option ℤ) (m : ℤ) (e : x ≡ Some m) where
+  pub second_bad : y ≡ None → item.Neither ≡ two_of x y
   unfolding two_of
   second_bad f = rw (e, f)
 
-  pub two_numbers : (n : ℤ) → y ≡ number.Is n → item.Two m n ≡ two_of x y
+  pub two_numbers : (n : ℤ) → y ≡ Some n → item.Two m n ≡ two_of x y
   unfolding two_of
   two_numbers n f = rw (e, f)
 
@@ -117,7 +115,7 @@ behind p from = take_all (length p - from) (drop from p) (rw (length-drop from p
 -- ---- the word
 
 module _ (w : List ℕ) where
-  pub item_one : (z : ℤ) → number_of w ≡ number.Is z → item.One z ≡ item_of w
+  pub item_one : (z : ℤ) → number_of w ≡ Some z → item.One z ≡ item_of w
   unfolding item_of one_of
   item_one z e =
       let s : slash_at w ≡ length w = number_no_slash w z e in
@@ -135,6 +133,6 @@ module _ (w : List ℕ) where
         let f : at + 1 ≡ suc at = omega arith in
         rw (← found, lt-ltb at (length w) h, f)
 
-    pub item_neither : number_of w ≡ number.Bad → length w ≤ at → item.Neither ≡ item_of w
+    pub item_neither : number_of w ≡ None → length w ≤ at → item.Neither ≡ item_of w
     unfolding item_of one_of
     item_neither e h = rw (← found, le-ltb at (length w) h, e)

@@ -10,8 +10,7 @@ use lib.ListN.{length, take, drop, get_or, drop_of_length-le, length-drop}
 use lib.Seq.{drop-cons, length-take-le}
 use borrow.Author.Tests.{leb-true, le-leb, ne_eqb}
 use Rattle.paper.proofs.Logic.{and_left}
-use Rattle.text_bytes.specs.declared.Number.TheVariants as number
-use Rattle.text_bytes.specs.declared.Size.TheVariants as size
+use Rattle.std.specs.declared.option.Option.TheVariants.{None, Some}
 use Rattle.text_protocol.specs.declared.Item.TheVariants as item
 use Rattle.text_bytes.specs.Bytes.{is_blank, run, digit_zero, digit_nine, minus_sign, space, tab, carriage_return}
 use Rattle.text_bytes.specs.Numbers.{is_digit, size_from, size_of, up_to, above, number_of, greatest}
@@ -69,19 +68,19 @@ module _ (t : List ℕ) (from i x : ℕ) (p : Leads t from i x) (h : i < length 
 
 -- ---- a word that is digits alone
 
-plain_number : (w : List ℕ) (x : ℕ) → 0 < length w → size_from 0 w ≡ size.Is x → x ≤ greatest
-    → number_of w ≡ number.Is (pos x)
+plain_number : (w : List ℕ) (x : ℕ) → 0 < length w → size_from 0 w ≡ Some x → x ≤ greatest
+    → number_of w ≡ Some (pos x)
 unfolding number_of size_of is_digit size_from above up_to
 plain_number [] x h e m = let z : ⊥ = omega arith in absurd z
 plain_number (b ∷ t) x h e m = rw (ne_eqb b minus_sign (no_minus (is_digit b) refl e), e) (within m)
   where
-    no_minus : (d : Bool) → is_digit b ≡ d → size_from 0 (b ∷ t) ≡ size.Is x → b ≡ minus_sign → ⊥
+    no_minus : (d : Bool) → is_digit b ≡ d → size_from 0 (b ∷ t) ≡ Some x → b ≡ minus_sign → ⊥
     no_minus true d s q =
         let low : digit_zero ≤ b = leb-true digit_zero b (and_left (leb digit_zero b) (leb b digit_nine) d) in
         omega arith
-    no_minus false d s q = let z : size.Bad ≡ size.Is x = rw d at s in let y : ◌≡◌ {A = ℕ} 0 1 = cc in omega arith
+    no_minus false d s q = let z : None ≡ Some x = rw d at s in let y : ◌≡◌ {A = ℕ} 0 1 = cc in omega arith
 
-    within : x ≤ greatest → above (up_to greatest (size.Is x)) ≡ number.Is (pos x)
+    within : x ≤ greatest → above (up_to greatest (Some x)) ≡ Some (pos x)
     within l = rw (le-leb x greatest l)
 
 module _ (t : List ℕ) (from e x : ℕ) (p : Leads t from e x) (some : from < e) (ends : run is_solid (drop e t) ≡ 0) where
@@ -93,7 +92,7 @@ module _ (t : List ℕ) (from e x : ℕ) (p : Leads t from e x) (some : from < e
       let n : e - from ≡ run is_solid (drop from t) = omega (arith, digits_end) in
       rw n
 
-  spelt : size_from 0 (take (e - from) (drop from t)) ≡ size.Is x
+  spelt : size_from 0 (take (e - from) (drop from t)) ≡ Some x
   unfolding size_from
   spelt = rw word_is (sym (rw ends at p.size))
 

@@ -7,7 +7,7 @@ use native.Mathlib.Omega.{arith}
 use lib.Dec.{leb, eqb}
 use lib.ListN.{length, drop, get_or, drop_of_length-le}
 use lib.Seq.{drop-cons}
-use lib.IntN.{pos, negsuc, ◌-ℤ◌}
+use lib.IntN.{ℤ, pos, negsuc, ◌-ℤ◌}
 use mir.Syntax.{w64}
 use mir.Val.{SFits, to_z, of_z}
 use mir.ValLaws.{to_z_pos}
@@ -16,10 +16,8 @@ use borrow.Author.Tests.{leb-true, le-leb, lt-leb, eq-eqb, ne_eqb}
 use Rattle.paper.proofs.Logic.{and_left, and_right}
 use Rattle.paper.proofs.Differences.{minus_one_less_is_negsuc}
 use Rattle.paper.specs.Lists.{pick}
-use Rattle.text_bytes.specs.declared.Number.{Number}
-use Rattle.text_bytes.specs.declared.Number.TheVariants as number
-use Rattle.text_bytes.specs.declared.Size.{Size}
-use Rattle.text_bytes.specs.declared.Size.TheVariants as size
+use Rattle.std.specs.declared.option.Option.{Option}
+use Rattle.std.specs.declared.option.Option.TheVariants.{None, Some}
 use Rattle.text_bytes.specs.Bytes.{is_blank, is_not, run, same, digit_zero, digit_nine, minus_sign}
 use Rattle.text_bytes.specs.Numbers.{is_digit, size_from, size_of, up_to, above, below, number_of, greatest, least}
 use Rattle.text_bytes.proofs.Spelling.{within_is_digit, low_no_digit, high_no_digit}
@@ -102,17 +100,17 @@ four_none b t i h e =
 -- ---- digits
 
 -- above hi the reading ends in Bad, whatever follows
-number_over : (hi n : ℕ) (t : List ℕ) → hi < n → up_to hi (size_from n t) ≡ size.Bad
+number_over : (hi n : ℕ) (t : List ℕ) → hi < n → up_to hi (size_from n t) ≡ None
 unfolding size_from up_to
 number_over hi n [] h = rw (lt-leb n hi h)
 number_over hi n (b ∷ t) h = go (is_digit b) (number_over hi (10 * n + (b - digit_zero)) t (omega arith))
   where
-    go : (x : Bool) → up_to hi (size_from (10 * n + (b - digit_zero)) t) ≡ size.Bad
-        → up_to hi (pick x (size_from (10 * n + (b - digit_zero)) t) size.Bad) ≡ size.Bad
+    go : (x : Bool) → up_to hi (size_from (10 * n + (b - digit_zero)) t) ≡ None
+        → up_to hi (pick x (size_from (10 * n + (b - digit_zero)) t) None) ≡ None
     go true e = e
     go false e = refl
 
-pub record Counting (t : List ℕ) (hi : ℕ) (goal : Size) (i x : ℕ) : Type 0 where
+pub record Counting (t : List ℕ) (hi : ℕ) (goal : Option ℕ) (i x : ℕ) : Type 0 where
   pub in_t : i ≤ length t
   pub below : x ≤ hi
   pub rest : up_to hi (size_from x (drop i t)) ≡ goal
@@ -121,21 +119,21 @@ pub counting_none : (t : List ℕ) (from hi : ℕ) → from ≤ length t → Cou
     from 0
 counting_none t from hi h = record { in_t = h; below = omega arith; rest = refl }
 
-module _ (t : List ℕ) (hi : ℕ) (goal : Size) (i x : ℕ) (p : Counting t hi goal i x) (h : i < length t) (b : ℕ) (e : b ≡
+module _ (t : List ℕ) (hi : ℕ) (goal : Option ℕ) (i x : ℕ) (p : Counting t hi goal i x) (h : i < length t) (b : ℕ) (e : b ≡
     get_or t i 0) where
-  here : up_to hi (pick (is_digit b) (size_from (10 * x + (b - digit_zero)) (drop (suc i) t)) size.Bad) ≡ goal
+  here : up_to hi (pick (is_digit b) (size_from (10 * x + (b - digit_zero)) (drop (suc i) t)) None) ≡ goal
   unfolding size_from
   here = rw e (rw (drop-cons t i 0 h) at p.rest)
 
-  pub counting_low : b < digit_zero → size.Bad ≡ goal
+  pub counting_low : b < digit_zero → None ≡ goal
   unfolding up_to
   counting_low q = rw (low_no_digit b q) at here
 
-  pub counting_high : digit_nine < b → size.Bad ≡ goal
+  pub counting_high : digit_nine < b → None ≡ goal
   unfolding up_to
   counting_high q = rw (high_no_digit b q) at here
 
-  pub counting_over : digit_zero ≤ b → b ≤ digit_nine → hi < 10 * x + (b - digit_zero) → size.Bad ≡ goal
+  pub counting_over : digit_zero ≤ b → b ≤ digit_nine → hi < 10 * x + (b - digit_zero) → None ≡ goal
   counting_over lo up o =
       sym (number_over hi (10 * x + (b - digit_zero)) (drop (suc i) t) o) ∙ (rw (within_is_digit b lo up) at here)
 
@@ -145,7 +143,7 @@ module _ (t : List ℕ) (hi : ℕ) (goal : Size) (i x : ℕ) (p : Counting t hi 
       let f : i + 1 ≡ suc i = omega arith in
       record { in_t = omega arith; below = o; rest = rw f (rw (within_is_digit b lo up) at here) }
 
-pub counting_all : (t : List ℕ) (hi : ℕ) (goal : Size) (i x : ℕ) → Counting t hi goal i x → length t ≤ i → size.Is x ≡
+pub counting_all : (t : List ℕ) (hi : ℕ) (goal : Option ℕ) (i x : ℕ) → Counting t hi goal i x → length t ≤ i → Some x ≡
     goal
 unfolding size_from up_to
 counting_all t hi goal i x p h = rw (le-leb x hi p.below) at (rw (drop_of_length-le t h) at p.rest)
@@ -155,7 +153,7 @@ counting_all t hi goal i x p h = rw (le-leb x hi p.below) at (rw (drop_of_length
 turned_fits : (n : ℕ) → n < 2 ^ 63 → SFits w64 (negsuc 0 -ℤ pos n)
 turned_fits n h = rw (minus_one_less_is_negsuc n) (record { sfits = omega arith })
 
-module _ (v : ℕ) (n : Size) (e : n ≡ size.Is v) where
+module _ (v : ℕ) (n : Option ℕ) (e : n ≡ Some v) where
   pub capped_is : (hi : ℕ) → Capped hi n → v ≤ hi
   unfolding Capped
   capped_is hi h = rw e at h
@@ -163,11 +161,11 @@ module _ (v : ℕ) (n : Size) (e : n ≡ size.Is v) where
   pub plus_fits : Capped greatest n → SFits w64 (pos v)
   plus_fits h = record { sfits = omega (arith, capped_is greatest h) }
 
-  pub plus_is : Capped greatest n → number.Is (to_z w64 v) ≡ above n
+  pub plus_is : Capped greatest n → Some (to_z w64 v) ≡ above n
   unfolding above
   plus_is h = rw (e, to_z_pos w64 v (omega (arith, capped_is greatest h)))
 
-  pub minus_zero : v ≡ 0 → number.Is (pos 0) ≡ below n
+  pub minus_zero : v ≡ 0 → Some (pos 0) ≡ below n
   unfolding below
   minus_zero z = rw (e, z)
 
@@ -179,7 +177,7 @@ module _ (v : ℕ) (n : Size) (e : n ≡ size.Is v) where
       let l : v - 1 < 2 ^ 63 = omega (arith, capped_is least h) in
       rw (to_z_pos w64 (v - 1) l) (turned_fits (v - 1) l)
 
-  pub minus_is : Capped least n → 0 < v → number.Is (to_z w64 (of_z w64 (negsuc 0 -ℤ to_z w64 (v - 1)))) ≡
+  pub minus_is : Capped least n → 0 < v → Some (to_z w64 (of_z w64 (negsuc 0 -ℤ to_z w64 (v - 1)))) ≡
       below n
   unfolding below
   minus_is h z =
@@ -187,47 +185,47 @@ module _ (v : ℕ) (n : Size) (e : n ≡ size.Is v) where
       let o : v ≡ suc (v - 1) = omega arith in
       rw (to_z_pos w64 (v - 1) l, to_z-of_z (turned_fits (v - 1) l), minus_one_less_is_negsuc (v - 1), e) (by (v - 1) o)
     where
-      by : (m : ℕ) → v ≡ suc m → number.Is (negsuc m) ≡ below (size.Is v)
+      by : (m : ℕ) → v ≡ suc m → Some (negsuc m) ≡ below (Some v)
       by m o = rw o
 
-pub bad_plus : (n : Size) → n ≡ size.Bad → number.Bad ≡ above n
+pub bad_plus : (n : Option ℕ) → n ≡ None → None ≡ above n
 unfolding above
 bad_plus n e = rw e
 
-pub bad_minus : (n : Size) → n ≡ size.Bad → number.Bad ≡ below n
+pub bad_minus : (n : Option ℕ) → n ≡ None → None ≡ below n
 unfolding below
 bad_minus n e = rw e
 
-pub capped : (hi : ℕ) (x n : Size) → n ≡ up_to hi x → Capped hi n
+pub capped : (hi : ℕ) (x n : Option ℕ) → n ≡ up_to hi x → Capped hi n
 unfolding Capped up_to
-capped hi size.Bad n e = rw e tt
-capped hi (size.Is v) n e = rw e (go (leb v hi) refl)
+capped hi None n e = rw e tt
+capped hi (Some v) n e = rw e (go (leb v hi) refl)
   where
-    go : (b : Bool) → leb v hi ≡ b → Capped hi (pick b (size.Is v) size.Bad)
+    go : (b : Bool) → leb v hi ≡ b → Capped hi (pick b (Some v) None)
     go true q = leb-true v hi q
     go false q = tt
 
 -- ---- a word that is a size_from
 
-pub signed_none : (t : List ℕ) → length t ≡ 0 → number.Bad ≡ number_of t
+pub signed_none : (t : List ℕ) → length t ≡ 0 → None ≡ number_of t
 unfolding number_of
 signed_none [] h = refl
 signed_none (b ∷ t) h = let z : ⊥ = omega arith in absurd z
 
-pub signed_bare : (t : List ℕ) → get_or t 0 0 ≡ minus_sign → length t ≡ 1 → number.Bad ≡ number_of t
+pub signed_bare : (t : List ℕ) → get_or t 0 0 ≡ minus_sign → length t ≡ 1 → None ≡ number_of t
 unfolding number_of size_of up_to below
 signed_bare [] e h = refl
 signed_bare (b ∷ []) e h = rw (eq-eqb b minus_sign e)
 signed_bare (b ∷ d ∷ t) e h = let z : ⊥ = omega arith in absurd z
 
-pub signed_minus : (t : List ℕ) (r : Number) (n : Size) → get_or t 0 0 ≡ minus_sign → (length t ≡ 0 → ⊥)
+pub signed_minus : (t : List ℕ) (r : Option ℤ) (n : Option ℕ) → get_or t 0 0 ≡ minus_sign → (length t ≡ 0 → ⊥)
     → (length t ≡ 1 → ⊥) → n ≡ up_to least (size_from 0 (drop 1 t)) → r ≡ below n → r ≡ number_of t
 unfolding number_of size_of
 signed_minus [] r n e o h q s = absurd (o refl)
 signed_minus (b ∷ []) r n e o h q s = absurd (h refl)
 signed_minus (b ∷ d ∷ t) r n e o h q s = rw (eq-eqb b minus_sign e, ← q) s
 
-pub signed_plus : (t : List ℕ) (r : Number) (n : Size) → (get_or t 0 0 ≡ minus_sign → ⊥) → (length t ≡ 0 → ⊥)
+pub signed_plus : (t : List ℕ) (r : Option ℤ) (n : Option ℕ) → (get_or t 0 0 ≡ minus_sign → ⊥) → (length t ≡ 0 → ⊥)
     → n ≡ up_to greatest (size_from 0 (drop 0 t)) → r ≡ above n → r ≡ number_of t
 unfolding number_of size_of
 signed_plus [] r n e o q s = absurd (o refl)

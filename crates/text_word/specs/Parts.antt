@@ -1,8 +1,8 @@
 -- What the contracts of this crate need beside the protocol's words: a byte of a word, which is any that is no
 -- blank, a run of bytes from a later place on, a size under a bound, and a word where it stands.
 use Rattle.std.specs.Prelude.{◌≡◌, Bool, true, false, not, List, ℕ, ◌+◌, ◌-◌, ◌≤◌, length, take, drop}
-use Rattle.text_bytes.specs.declared.Size.{Size}
-use Rattle.text_bytes.specs.declared.Size.TheVariants as size
+use Rattle.std.specs.declared.option.Option.{Option}
+use Rattle.std.specs.declared.option.Option.TheVariants.{None, Some}
 use Rattle.text_bytes.specs.Bytes.{is_blank, run}
 use Rattle.text_bytes.specs.Numbers.{size_from, greatest}
 use Rattle.text_protocol.specs.Line.{item_of}
@@ -23,9 +23,9 @@ pub record Onward (passes : ℕ → Bool) (t : List ℕ) (i j : ℕ) : Type 0 wh
   pub rest : j + run passes (drop j t) ≡ i + run passes (drop i t)
 
 -- a size that is at most `most`
-unfoldable pub Capped : (most : ℕ) → Size → Type 0
-Capped most (size.Is n) = n ≤ most
-Capped most size.Bad = Unit {0}
+unfoldable pub Capped : (most : ℕ) → Option ℕ → Type 0
+Capped most (Some n) = n ≤ most
+Capped most None = Unit {0}
 
 -- the word from a place on
 abbrev pub word_from : List ℕ → (at : ℕ) → List ℕ

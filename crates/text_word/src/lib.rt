@@ -7,7 +7,7 @@ ghost use Rattle.text_bytes.specs.Numbers.{size_from, up_to, above, below, numbe
 ghost use Rattle.text_protocol.specs.Line.{two_of, item_of};
 ghost use Rattle.text_word.specs.Parts.{is_solid, is_part, Onward, Capped, Leads, WordAt};
 
-use text_bytes::{DIGIT_NINE, DIGIT_ZERO, Number, Size};
+use text_bytes::{DIGIT_NINE, DIGIT_ZERO};
 use text_protocol::Item;
 
 // The sizes of the greatest and of the least number of 64 bits with a sign.
@@ -184,7 +184,7 @@ fn wide(b: u8) -> u64
 }
 
 // The size that the bytes from `from` on spell, unless it is above `most`.
-fn number_from(p: &[u8], from: usize, most: u64) -> Size
+fn number_from(p: &[u8], from: usize, most: u64) -> Option<u64>
     requires { (from ≤ length p.now) × (most < 2 ^ 63 + 1) }
     ensures { result ≡ up_to most (size_from 0 (drop from p.now)) }
 {
@@ -193,61 +193,61 @@ fn number_from(p: &[u8], from: usize, most: u64) -> Size
     while i < p.len() {
         let b = wide(p[i]);
         if b < DIGIT_ZERO {
-            return Size::Bad;
+            return None;
         }
         if DIGIT_NINE < b {
-            return Size::Bad;
+            return None;
         }
         if SIZE_BEFORE_ONE_MORE_DIGIT < x {
-            return Size::Bad;
+            return None;
         }
         let y = 10 * x + (b - DIGIT_ZERO);
         if most < y {
-            return Size::Bad;
+            return None;
         }
         x = y;
         i += 1;
     }
-    Size::Is(x)
+    Some(x)
 }
 
 // A size below zero.
-fn below(n: Size) -> Number
+fn below(n: Option<u64>) -> Option<i64>
     requires { Capped least n }
     ensures { result ≡ below n }
 {
     match n {
-        Size::Is(x) => {
+        Some(x) => {
             if x == 0 {
-                return Number::Is(0);
+                return Some(0);
             }
             let y = (x - 1) as i64;
-            Number::Is(-1 - y)
+            Some(-1 - y)
         }
-        Size::Bad => Number::Bad,
+        None => None,
     }
 }
 
-fn above(n: Size) -> Number
+fn above(n: Option<u64>) -> Option<i64>
     requires { Capped greatest n }
     ensures { result ≡ above n }
 {
     match n {
-        Size::Is(x) => Number::Is(x as i64),
-        Size::Bad => Number::Bad,
+        Some(x) => Some(x as i64),
+        None => None,
     }
 }
 
 // The number that a word spells: digits, behind a minus or none.
-pub fn number_of(p: &[u8]) -> Number
+pub fn number_of(p: &[u8]) -> Option<i64>
     ensures { result ≡ number_of p.now }
 {
     if p.len() == 0 {
-        return Number::Bad;
+        return None;
     }
     if p[0] == b'-' {
         if p.len() == 1 {
-            return Number::Bad;
+            return None;
         }
         return below(number_from(p, 1, LEAST_SIZE));
     }
@@ -260,12 +260,12 @@ fn pair_at(p: &[u8], at: usize) -> Item
     ensures { result ≡ two_of (number_of (take at p.now)) (number_of (drop (at + 1) p.now)) }
 {
     let first = number_of(&p[..at]);
-    let Number::Is(m) = first else {
+    let Some(m) = first else {
         return Item::Neither;
     };
     let from = at + 1;
     let second = number_of(&p[from..]);
-    let Number::Is(n) = second else {
+    let Some(n) = second else {
         return Item::Neither;
     };
     Item::Two(m, n)
@@ -276,7 +276,7 @@ pub fn item_of(p: &[u8]) -> Item
     ensures { result ≡ item_of p.now }
 {
     let whole = number_of(p);
-    if let Number::Is(z) = whole {
+    if let Some(z) = whole {
         return Item::One(z);
     }
     let at = find(p, 0, b'/');

@@ -22,14 +22,14 @@ between a u b h = go (le_or_lt (a + u) b)
 too_early : (a u b : ℕ) → b < a → leb (a + u) b ≡ false
 too_early a u b h = lt-leb (a + u) b (omega arith)
 
-pub returns-in-Not : goal.returns-in-Not
+pub returns-in-None : goal.returns-in-None
 unfolding alert
-returns-in-Not c = rw c.in-Not.is
+returns-in-None c = rw c.in-None.is
 
 pub returns-then-second-since : goal.returns-then-second-since
 unfolding alert
-returns-then-second-since c = rw c.in-Since.is (sym (too_early _ _ _ c.if-second-since.true))
+returns-then-second-since c = rw c.in-Some.is (sym (too_early _ _ _ c.if-second-since.true))
 
 pub returns-else-second-since : goal.returns-else-second-since
 unfolding alert
-returns-else-second-since c = rw c.in-Since.is (between _ _ _ c.if-second-since.false)
+returns-else-second-since c = rw c.in-Some.is (between _ _ _ c.if-second-since.false)

@@ -2,13 +2,13 @@
 use Rattle.paper_desk.specs.Alerts.{near_after, kept_since}
 use Rattle.alerts.proofs.near_after.Goals as goal
 
-pub returns-in-Not : goal.returns-in-Not
+pub returns-in-None : goal.returns-in-None
 unfolding near_after kept_since
-returns-in-Not c = rw (c.if-near.true, c.in-Not.is)
+returns-in-None c = rw (c.if-near.true, c.in-None.is)
 
-pub returns-in-Since : goal.returns-in-Since
+pub returns-in-Some : goal.returns-in-Some
 unfolding near_after kept_since
-returns-in-Since c = rw (c.if-near.true, c.in-Since.is)
+returns-in-Some c = rw (c.if-near.true, c.in-Some.is)
 
 pub returns-else-near : goal.returns-else-near
 unfolding near_after

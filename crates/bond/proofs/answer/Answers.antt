@@ -38,7 +38,7 @@ gross_of-requires c =
 
 pub priced-requires : goal.priced-requires
 priced-requires c =
-    let made = price_made_lem _ _ (sym c.new-gross.ensures ∙ c.in-Made.is) in record {
+    let made = price_made_lem _ _ (sym c.new-gross.ensures ∙ c.in-Some.is) in record {
       price_known = record {
         valid = and_left _ (valid_flows c.args.flows.now) (in_range_known (goal.at.priced-requires c).Else-not-bond_valid-flows_valid);
         flows = and_right (valid_bond c.args.b) _ (in_range_known (goal.at.priced-requires c).Else-not-bond_valid-flows_valid);
@@ -48,9 +48,9 @@ priced-requires c =
       units_value = ap (λ (p : Price). p.units) made.1 ∙ c.gross_of.ensures;
     }
 
-pub returns-in-OutOfRange : goal.returns-in-OutOfRange
-returns-in-OutOfRange c =
-    let out = price_unmade _ (sym c.new-gross.ensures ∙ c.in-OutOfRange.is) in
-    c.refused-in-OutOfRange.ensures
-    ∙ answers_price_out_of_range _ _ (in_range_known (goal.at.returns-in-OutOfRange c).Else-not-bond_valid-flows_valid) (ne_eqb _ _ c.if-b-eq0.false)
+pub returns-in-None : goal.returns-in-None
+returns-in-None c =
+    let out = price_unmade _ (sym c.new-gross.ensures ∙ c.in-None.is) in
+    c.refused-in-None.ensures
+    ∙ answers_price_out_of_range _ _ (in_range_known (goal.at.returns-in-None c).Else-not-bond_valid-flows_valid) (ne_eqb _ _ c.if-b-eq0.false)
     (rw c.gross_of.ensures at out)

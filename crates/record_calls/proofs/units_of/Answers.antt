@@ -3,10 +3,10 @@ use mathlib.Core.Path.{sym, ◌∙◌}
 use Rattle.paper_desk.specs.External.{units_made}
 use Rattle.record_calls.proofs.units_of.Goals as goal
 
-pub returns-in-Made : goal.returns-in-Made
+pub returns-in-Some : goal.returns-in-Some
 unfolding units_made
-returns-in-Made c = rw (sym c.price_of-made.ensures ∙ c.in-Made.is)
+returns-in-Some c = rw (sym c.price_of-made.ensures ∙ c.in-Some.is)
 
-pub returns-in-OutOfRange : goal.returns-in-OutOfRange
+pub returns-in-None : goal.returns-in-None
 unfolding units_made
-returns-in-OutOfRange c = rw (sym c.price_of-made.ensures ∙ c.in-OutOfRange.is)
+returns-in-None c = rw (sym c.price_of-made.ensures ∙ c.in-None.is)

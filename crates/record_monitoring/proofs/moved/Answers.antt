@@ -58,18 +58,18 @@ returns-then-not-move_allowed c =
 
 pub returns-then-count_of-eq-MOVES_MOST : goal.returns-then-count_of-eq-MOVES_MOST
 returns-then-count_of-eq-MOVES_MOST c =
-    let test = rw (c.count_of.ensures, c.side_of-named.ensures) at
+    let test = rw (c.count_of.ensures, c.from-named.ensures) at
     c.if-count_of-eq-MOVES_MOST.true in
     c.refused-then-count_of-eq-MOVES_MOST.ensures ∙ move_used_up _ _ (past (goal.at.returns-then-count_of-eq-MOVES_MOST c).Else-not-is_done) (allowed (goal.at.returns-then-count_of-eq-MOVES_MOST c).Else-not-move_allowed) (eq-eqb _ _ test)
 
 pub moved-requires : goal.moved-requires
 moved-requires c =
     let v = known_sound _ (past (goal.at.moved-requires c).Else-not-is_done).known in
-    record { r_value = v; moves_bound = a_move_is_left _ c.side_of-named.result v (rw c.count_of.ensures at c.if-count_of-eq-MOVES_MOST.false) }
+    record { r_value = v; moves_bound = a_move_is_left _ c.from-named.result v (rw c.count_of.ensures at c.if-count_of-eq-MOVES_MOST.false) }
 
 pub returns : goal.returns
 returns c =
-    let side = c.side_of-named.ensures in
+    let side = c.from-named.ensures in
     let test = rw (c.count_of.ensures, side) at c.if-count_of-eq-MOVES_MOST.false in
     rw (c.written.ensures, c.moved.ensures, side)
     (move_accepted _ _ (past (goal.at.returns c).Else-not-is_done) (allowed (goal.at.returns c).Else-not-move_allowed) (ne_eqb _ _ test))

@@ -2,10 +2,10 @@
 use Rattle.paper.specs.Ranges.{valid_near}
 use Rattle.record_soundness.proofs.valid_near.Goals as goal
 
-pub returns-in-Not : goal.returns-in-Not
+pub returns-in-None : goal.returns-in-None
 unfolding valid_near
-returns-in-Not c = rw c.in-Not.is
+returns-in-None c = rw c.in-None.is
 
-pub returns-in-Since : goal.returns-in-Since
+pub returns-in-Some : goal.returns-in-Some
 unfolding valid_near
-returns-in-Since c = rw c.in-Since.is
+returns-in-Some c = rw c.in-Some.is

@@ -2,10 +2,10 @@
 use Rattle.text_deed.specs.Deeds.{reasons_in}
 use Rattle.text_deed.proofs.reasons_in.Goals as goal
 
-pub returns-in-No : goal.returns-in-No
+pub returns-in-None : goal.returns-in-None
 unfolding reasons_in
-returns-in-No c = rw c.in-No.is c.no_reasons.ensures
+returns-in-None c = rw c.in-None.is c.no_reasons.ensures
 
-pub returns-in-Because : goal.returns-in-Because
+pub returns-in-Some : goal.returns-in-Some
 unfolding reasons_in
-returns-in-Because c = rw c.in-Because.is
+returns-in-Some c = rw c.in-Some.is

@@ -2,10 +2,10 @@
 use Rattle.text_deed.specs.Deeds.{reason_for}
 use Rattle.text_deed.proofs.say_reason.Goals as goal
 
-pub returns-in-No : goal.returns-in-No
+pub returns-in-None : goal.returns-in-None
 unfolding reason_for
-returns-in-No c = rw c.in-No.is c.say_fault.ensures
+returns-in-None c = rw c.in-None.is c.say_fault.ensures
 
-pub returns-in-Because : goal.returns-in-Because
+pub returns-in-Some : goal.returns-in-Some
 unfolding reason_for
-returns-in-Because c = rw c.in-Because.is c.say_why.ensures
+returns-in-Some c = rw c.in-Some.is c.say_why.ensures

@@ -4,10 +4,10 @@ use Rattle.text_word.proofs.WordLoops.{plus_fits, plus_is, bad_plus}
 use Rattle.text_word.proofs.above.Goals as goal
 
 pub overflow_cast-result : goal.overflow_cast-result
-overflow_cast-result c = plus_fits _ _ c.in-Is.is c.requires
+overflow_cast-result c = plus_fits _ _ c.in-Some.is c.requires
 
-pub returns-in-Is : goal.returns-in-Is
-returns-in-Is c = plus_is _ _ c.in-Is.is c.requires
+pub returns-in-Some : goal.returns-in-Some
+returns-in-Some c = plus_is _ _ c.in-Some.is c.requires
 
-pub returns-in-Bad : goal.returns-in-Bad
-returns-in-Bad c = bad_plus _ c.in-Bad.is
+pub returns-in-None : goal.returns-in-None
+returns-in-None c = bad_plus _ c.in-None.is

@@ -13,6 +13,6 @@ pub returns : goal.returns
 returns c = item_neither _ _ c.find-at.ensures.0 (sym
     c.number_of-whole.ensures ∙ c.in_default.is) c.if-at-p.false
 
-pub returns-in-Is : goal.returns-in-Is
-returns-in-Is c = rw (to_z-of_z {w = w64} {z = c.in-Is.z} (search rules))
-    (item_one _ _ (sym c.number_of-whole.ensures ∙ c.in-Is.is))
+pub returns-in-Some : goal.returns-in-Some
+returns-in-Some c = rw (to_z-of_z {w = w64} {z = c.in-Some.z} (search rules))
+    (item_one _ _ (sym c.number_of-whole.ensures ∙ c.in-Some.is))

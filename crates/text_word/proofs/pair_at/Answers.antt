@@ -16,13 +16,13 @@ returns-in_default c = first_bad _ _ (sym c.number_of-first.ensures ∙ c.in_def
 
 pub returns-in_default-second : goal.returns-in_default-second
 returns-in_default-second c =
-    second_bad _ _ _ (sym c.number_of-first.ensures ∙ c.in-Is.is)
+    second_bad _ _ _ (sym c.number_of-first.ensures ∙ c.in-Some.is)
     (sym (rw (behind c.args.p.now _) at c.number_of-second.ensures) ∙ c.in_default-second.is)
 
 pub returns : goal.returns
 returns c =
-    let first = to_z-of_z {w = w64} {z = c.in-Is.m} (search rules) in
-    let second = to_z-of_z {w = w64} {z = c.in-Is-second.n} (search rules) in
+    let first = to_z-of_z {w = w64} {z = c.in-Some.m} (search rules) in
+    let second = to_z-of_z {w = w64} {z = c.in-Some-second.n} (search rules) in
     rw (first, second)
-    (two_numbers _ _ _ (sym c.number_of-first.ensures ∙ c.in-Is.is) _
-    (sym (rw (behind c.args.p.now _) at c.number_of-second.ensures) ∙ c.in-Is-second.is))
+    (two_numbers _ _ _ (sym c.number_of-first.ensures ∙ c.in-Some.is) _
+    (sym (rw (behind c.args.p.now _) at c.number_of-second.ensures) ∙ c.in-Some-second.is))

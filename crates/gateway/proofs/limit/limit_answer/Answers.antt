@@ -65,7 +65,7 @@ figure-requires c =
     omega (
       arith,
       c.limit_of.ensures,
-      limit_high st c.args.asked c.side_of.result c.in-At.p c.in-At.rate
+      limit_high st c.args.asked c.from.result c.in-At.p c.in-At.rate
           (valid (goal.at.figure-requires c).After-statics_of-st)
           (inputs h st c.args.asked c.args.side (sym is ∙ c.if-limit_in_range.true)),
     )
@@ -75,9 +75,9 @@ unfolding limit_call
 returns-then-limit_in_range c =
     let h = made_is_held c.args.p c.args.rate _ _ (sym c.price_and_rate.ensures ∙ c.in-At.is) in
     let st = c.statics_of-st.result in
-    rw (← c.statics_of-st.ensures, ← c.side_of.ensures)
+    rw (← c.statics_of-st.ensures, ← c.from.ensures)
     (answers_figure _ _ _ (search rules) c.valid_given.ensures c.figure.ensures
-    (limited h st c.args.asked c.side_of.result c.limit_of.ensures) c.if-valid_given.true
+    (limited h st c.args.asked c.from.result c.limit_of.ensures) c.if-valid_given.true
     (tested h st c.args.asked c.args.side c.limit_in_range.ensures) c.if-limit_in_range.true)
 
 pub returns-then-valid_given : goal.returns-then-valid_given

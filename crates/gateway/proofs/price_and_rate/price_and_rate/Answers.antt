@@ -4,21 +4,21 @@ use Rattle.inputs.proofs.Made.{price_made_lem, price_unmade, rate_made_lem, rate
 use Rattle.gateway.specs.PriceAndRate.{price_and_rate}
 use Rattle.gateway.proofs.price_and_rate.price_and_rate.Goals as goal
 
-pub returns-in-OutOfRange : goal.returns-in-OutOfRange
+pub returns-in-None : goal.returns-in-None
 unfolding price_and_rate
-returns-in-OutOfRange c = rw (price_unmade _ (sym c.new-price.ensures ∙ c.in-OutOfRange.is))
+returns-in-None c = rw (price_unmade _ (sym c.new-price.ensures ∙ c.in-None.is))
 
-pub returns-in-OutOfRange-rated : goal.returns-in-OutOfRange-rated
+pub returns-in-None-rated : goal.returns-in-None-rated
 unfolding price_and_rate
-returns-in-OutOfRange-rated c =
+returns-in-None-rated c =
     rw (
-      (price_made_lem _ _ (sym c.new-price.ensures ∙ c.in-Made.is)).0,
-      rate_unmade _ (sym c.new-rated.ensures ∙ c.in-OutOfRange-rated.is),
+      (price_made_lem _ _ (sym c.new-price.ensures ∙ c.in-Some.is)).0,
+      rate_unmade _ (sym c.new-rated.ensures ∙ c.in-None-rated.is),
     )
 
-pub returns-in-Made-rated : goal.returns-in-Made-rated
+pub returns-in-Some-rated : goal.returns-in-Some-rated
 unfolding price_and_rate
-returns-in-Made-rated c =
-    let price = price_made_lem _ _ (sym c.new-price.ensures ∙ c.in-Made.is) in
-    let rate = rate_made_lem _ _ (sym c.new-rated.ensures ∙ c.in-Made-rated.is) in
+returns-in-Some-rated c =
+    let price = price_made_lem _ _ (sym c.new-price.ensures ∙ c.in-Some.is) in
+    let rate = rate_made_lem _ _ (sym c.new-rated.ensures ∙ c.in-Some-rated.is) in
     rw (price.1, rate.1, price.0, rate.0)

@@ -9,16 +9,16 @@ use Rattle.record_calls.proofs.admission.admitted.Goals as goal
 -- each price in hand is the one that was given
 pub admitted_at-requires : goal.admitted_at-requires
 admitted_at-requires c = (
-  (price_made_lem _ _ (sym c.new-later.ensures ∙ c.in-Made.is)).1,
-  (price_made_lem _ _ (sym c.new-earlier.ensures ∙ c.in-Made-earlier.is)).1,
+  (price_made_lem _ _ (sym c.new-later.ensures ∙ c.in-Some.is)).1,
+  (price_made_lem _ _ (sym c.new-earlier.ensures ∙ c.in-Some-earlier.is)).1,
 )
 
-pub returns-in-OutOfRange : goal.returns-in-OutOfRange
-returns-in-OutOfRange c =
-    let out = price_unmade _ (sym c.new-later.ensures ∙ c.in-OutOfRange.is) in
+pub returns-in-None : goal.returns-in-None
+returns-in-None c =
+    let out = price_unmade _ (sym c.new-later.ensures ∙ c.in-None.is) in
     c.refused.ensures ∙ admission_invalid _ _ _ (λ v. not_true_and_false _ (admission_prices_valid _ v).0 out)
 
-pub returns-in-OutOfRange-earlier : goal.returns-in-OutOfRange-earlier
-returns-in-OutOfRange-earlier c =
-    let out = price_unmade _ (sym c.new-earlier.ensures ∙ c.in-OutOfRange-earlier.is) in
-    c.refused-in-OutOfRange-earlier.ensures ∙ admission_invalid _ _ _ (λ v. not_true_and_false _ (admission_prices_valid _ v).1 out)
+pub returns-in-None-earlier : goal.returns-in-None-earlier
+returns-in-None-earlier c =
+    let out = price_unmade _ (sym c.new-earlier.ensures ∙ c.in-None-earlier.is) in
+    c.refused-in-None-earlier.ensures ∙ admission_invalid _ _ _ (λ v. not_true_and_false _ (admission_prices_valid _ v).1 out)

@@ -4,13 +4,13 @@ use mathlib.Core.Bool.{true, false}
 use lib.Dec.{T}
 use lib.Ieee.{Float, nan, inf, fin, ne, is_nan, binary64, to_bits}
 use lib.Ieee.Compare.{differs_from_itself, nan_differs}
-use Rattle.paper.specs.declared.MadePrice.TheVariants.{OutOfRange}
+use Rattle.std.specs.declared.option.Option.TheVariants.{None}
 use Rattle.paper.proofs.Logic.{not_true_and_false}
 use Rattle.paper.specs.Floats.{price_of_bits, price_of}
 use Rattle.paper.proofs.ByValue.{nan_refused}
 use Rattle.record_calls.proofs.floats.price_of.Goals as goal
 
-differs_refused : (x : Float) → ne x x ≡ true → price_of x ≡ OutOfRange
+differs_refused : (x : Float) → ne x x ≡ true → price_of x ≡ None
 differs_refused x h = rw (differs_from_itself x (subst T (sym h) tt)) nan_refused
 
 -- a float that is itself is a number or an infinity

@@ -1,63 +1,47 @@
--- `fault_of` meets its contract: each test of the code is the definition's, in its order: 6, 16, 7 and 9.
-use mathlib.Core.Path.{sym, ◌∙◌}
+-- `fault_of` meets its contract: each arm is the definition's, at its number: 6, 16, 7 and 9.
+use mathlib.Core.Path.{refl}
 use Rattle.rows.specs.RowLaws.{whole_in_sevens, valid_whole, valid_every}
+use Rattle.paper_reasons.specs.Faults.{is_same}
 use Rattle.record_reasons.specs.RowFaults.{fault_with}
-use Rattle.record_reasons.proofs.AtFault.{every_true}
+use Rattle.record_reasons.proofs.AtFault.{every_true, none_at_fault}
 use Rattle.record_reasons.proofs.faults.fault_of.Goals as goal
 
-pub returns-then-is_same : goal.returns-then-is_same
-unfolding fault_with
-returns-then-is_same c = rw (sym c.is_same.ensures ∙ c.if-is_same.true) c.out_of_range.ensures
+pub returns-in-OutOfRange : goal.returns-in-OutOfRange
+unfolding fault_with is_same
+returns-in-OutOfRange c = rw c.in-OutOfRange.is c.out_of_range.ensures
 
 pub first_row-requires : goal.first_row-requires
+unfolding is_same
 first_row-requires c =
-    let valid = c.requires.crossed (sym c.is_same-2.ensures ∙ c.if-is_same-2.true) in
+    let valid = c.requires.crossed (rw c.in-RowCrossed.is refl) in
     record { row_numbers_len = whole_in_sevens _ (valid_whole _ valid); rows_value = every_true _ }
 
-pub returns-then-is_same-2 : goal.returns-then-is_same-2
-unfolding fault_with
-returns-then-is_same-2 c =
-    rw (
-      sym c.is_same.ensures ∙ c.if-is_same.false,
-      sym c.is_same-2.ensures ∙ c.if-is_same-2.true,
-    )
-    c.first_row.ensures
+pub returns-in-RowCrossed : goal.returns-in-RowCrossed
+unfolding fault_with is_same
+returns-in-RowCrossed c = rw c.in-RowCrossed.is c.first_row.ensures
 
-pub first_row-requires-then-is_same-3 : goal.first_row-requires-then-is_same-3
-first_row-requires-then-is_same-3 c =
-    let valid = c.requires.beyond (sym c.is_same-3.ensures ∙ c.if-is_same-3.true) in
+pub first_row-requires-in-PriceOutOfRange : goal.first_row-requires-in-PriceOutOfRange
+unfolding is_same
+first_row-requires-in-PriceOutOfRange c =
+    let valid = c.requires.beyond (rw c.in-PriceOutOfRange.is refl) in
     record { row_numbers_len = whole_in_sevens _ (valid_whole _ valid); rows_value = valid_every _ valid }
 
-pub returns-then-is_same-3 : goal.returns-then-is_same-3
-unfolding fault_with
-returns-then-is_same-3 c =
-    rw (
-      sym c.is_same.ensures ∙ c.if-is_same.false,
-      sym c.is_same-2.ensures ∙ c.if-is_same-2.false,
-      sym c.is_same-3.ensures ∙ c.if-is_same-3.true,
-    )
-    c.first_row-then-is_same-3.ensures
+pub returns-in-PriceOutOfRange : goal.returns-in-PriceOutOfRange
+unfolding fault_with is_same
+returns-in-PriceOutOfRange c = rw c.in-PriceOutOfRange.is c.first_row-in-PriceOutOfRange.ensures
 
-pub returns-then-is_same-4 : goal.returns-then-is_same-4
-unfolding fault_with
-returns-then-is_same-4 c =
+pub returns-in-BandCrossed : goal.returns-in-BandCrossed
+unfolding fault_with is_same
+returns-in-BandCrossed c =
     rw (
+      c.in-BandCrossed.is,
       c.first_term.ensures,
-      c.is_crossed-then-is_same-4-2.ensures,
-      c.is_crossed-then-is_same-4.ensures,
+      c.is_crossed-in-BandCrossed-2.ensures,
+      c.is_crossed-in-BandCrossed.ensures,
       c.is_crossed.ensures,
-      sym c.is_same.ensures ∙ c.if-is_same.false,
-      sym c.is_same-2.ensures ∙ c.if-is_same-2.false,
-      sym c.is_same-3.ensures ∙ c.if-is_same-3.false,
-      sym c.is_same-4.ensures ∙ c.if-is_same-4.true,
     )
 
-pub returns : goal.returns
-unfolding fault_with
-returns c =
-    rw (
-      sym c.is_same.ensures ∙ c.if-is_same.false,
-      sym c.is_same-2.ensures ∙ c.if-is_same-2.false,
-      sym c.is_same-3.ensures ∙ c.if-is_same-3.false,
-      sym c.is_same-4.ensures ∙ c.if-is_same-4.false,
-    )
+pub returns-in_default : goal.returns-in_default
+returns-in_default c =
+    none_at_fault _ _ _ _ c.in_default.not-OutOfRange c.in_default.not-RowCrossed c.in_default.not-PriceOutOfRange
+    c.in_default.not-BandCrossed

@@ -4,7 +4,7 @@ use mathlib.Core.Path.{◌≡◌}
 use Rattle.paper.specs.declared.Admission.{Admission}
 use Rattle.paper.specs.Ranges.{admission_numbers}
 use Rattle.paper.specs.Verdicts.{first_named}
-use Rattle.paper_reasons.specs.declared.FieldAtFault.TheVariants as field
+use Rattle.std.specs.declared.option.Option.TheVariants.{None}
 use Rattle.paper_reasons.specs.AdmissionFaults.{admission_table, out_of_table, first_place}
 use Rattle.record_reasons.specs.FirstOut.{first_out}
 use Rattle.record_reasons.proofs.SeekingOut.{step_positive, table_named, table_passed_by}
@@ -17,7 +17,7 @@ given c = c.before.before.before.before.before.before.before.args.a
 
 -- what is found is what the table names
 out_is : (c : After-first_out-out) → c.first_out-out.result
-    ≡ first_named field.None (out_of_table first_place admission_table (admission_numbers (given c)))
+    ≡ first_named None (out_of_table first_place admission_table (admission_numbers (given c)))
 unfolding first_out
 out_is c =
     let most = c.before.before.before.before in
@@ -33,6 +33,6 @@ pub returns-in-None : goal.returns-in-None
 returns-in-None c =
     table_passed_by (given (goal.at.returns-in-None c).After-first_out-out) _ (out_is (goal.at.returns-in-None c).After-first_out-out) _ c.in-None.is c.first_unfit.ensures
 
-pub returns-in-Number : goal.returns-in-Number
-returns-in-Number c =
-    table_named (given (goal.at.returns-in-Number c).After-first_out-out) _ (out_is (goal.at.returns-in-Number c).After-first_out-out) _ c.in-Number.is
+pub returns-in-Some : goal.returns-in-Some
+returns-in-Some c =
+    table_named (given (goal.at.returns-in-Some c).After-first_out-out) _ (out_is (goal.at.returns-in-Some c).After-first_out-out) _ c.in-Some.is

@@ -4,10 +4,10 @@ use Rattle.text_out.specs.Told.{roomier}
 use Rattle.text_protocol.specs.Answers.{near_number}
 use Rattle.text_answer.proofs.record.put_near.Goals as goal
 
-pub returns-in-Since : goal.returns-in-Since
+pub returns-in-Some : goal.returns-in-Some
 unfolding near_number
-returns-in-Since c = rw c.in-Since.is (roomier c.put_next.ensures (omega arith))
+returns-in-Some c = rw c.in-Some.is (roomier c.put_next.ensures (omega arith))
 
-pub returns-in-Not : goal.returns-in-Not
+pub returns-in-None : goal.returns-in-None
 unfolding near_number
-returns-in-Not c = rw c.in-Not.is c.put_next_signed.ensures
+returns-in-None c = rw c.in-None.is c.put_next_signed.ensures

@@ -10,8 +10,8 @@ returns-in-None c = rw c.in-None.is (wider c.put_word.ensures (omega arith))
 
 pub returns-in-Row : goal.returns-in-Row
 unfolding fault_words
-returns-in-Row c = rw c.in-Row.is c.put_numbered.ensures
+returns-in-Row c = rw (c.in-Some.is, c.in-Row.is) c.put_numbered.ensures
 
 pub returns-in-Term : goal.returns-in-Term
 unfolding fault_words
-returns-in-Term c = rw c.in-Term.is c.put_numbered-in-Term.ensures
+returns-in-Term c = rw (c.in-Some.is, c.in-Term.is) c.put_numbered-in-Term.ensures

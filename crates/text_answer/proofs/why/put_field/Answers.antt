@@ -7,6 +7,6 @@ pub returns-in-None : goal.returns-in-None
 unfolding field_words spelled
 returns-in-None c = rw c.in-None.is (nothing _ _ _)
 
-pub returns-in-Number : goal.returns-in-Number
+pub returns-in-Some : goal.returns-in-Some
 unfolding field_words
-returns-in-Number c = rw c.in-Number.is c.put_numbered.ensures
+returns-in-Some c = rw c.in-Some.is c.put_numbered.ensures

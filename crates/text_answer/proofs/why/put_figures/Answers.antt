@@ -7,6 +7,6 @@ pub returns-in-None : goal.returns-in-None
 unfolding figure_words spelled
 returns-in-None c = rw c.in-None.is (nothing _ _ _)
 
-pub returns-in-By : goal.returns-in-By
+pub returns-in-Some : goal.returns-in-Some
 unfolding figure_words
-returns-in-By c = rw c.in-By.is c.put_deciding.ensures
+returns-in-Some c = rw c.in-Some.is c.put_deciding.ensures

@@ -35,7 +35,7 @@ returns-in-Quote c = rw (c.in-About.is, c.in-Quote.is)
 
 pub returns-in-Move : goal.returns-in-Move
 unfolding role_of role_about
-returns-in-Move c = rw (c.in-About.is, c.in-Move.is, c.side_of.ensures)
+returns-in-Move c = rw (c.in-About.is, c.in-Move.is, c.from.ensures)
 
 pub returns-in-Open : goal.returns-in-Open
 unfolding role_of role_about
