@@ -4,12 +4,11 @@
 // are what a reader has to see for himself.
 #![tactic(auto)]
 
-ghost use Rattle.std.specs.Prelude.{◌≡◌, ◌-◌, ◌≤◌, length, take, drop, IfOk, OnErr};
-ghost use Rattle.text_evidence.specs.Evidence.{Counted, unread, unwritten, has_ended, has_failed, is_well};
+ghost use Rattle.std.specs.Prelude.{◌≡◌, ◌-◌, ◌≤◌, length, take, drop};
+ghost use Rattle.text_evidence.specs.Evidence.{unread, unwritten, has_ended, has_failed, is_well};
 ghost use Rattle.text_evidence.specs.Evidence.{took_all, Fills, Hands};
 
 use std::env::{Env, FillError};
-use std::io;
 use std::io::{Read, Stdin, Stdout, Write};
 
 // ---- the input
@@ -75,39 +74,13 @@ impl Delivered {
     }
 }
 
-// A count that stops at the greatest number of 64 bits.
-fn counted(all: u64, more: u64) -> u64
-    ensures { Counted all more result }
-{
-    if more <= u64::MAX - all {
-        return all + more;
-    }
-    u64::MAX
-}
-
-// How many bytes a read or a write moved: none where it failed.
-fn count_of(got: io::Result<usize>) -> usize
-    ensures ok { IfOk got (λ n. result ≡ n) }
-    ensures err { OnErr got (result ≡ 0) }
-{
-    match got {
-        Ok(n) => n,
-        Err(_) => 0,
-    }
-}
-
 // The bytes from `from` to `to` of a buffer, moved to the front, so that a read finds room behind them.
 pub fn shift(buf: &mut [u8], from: usize, to: usize) -> usize
     requires { (from ≤ to) × (to ≤ length buf.old) }
-    ensures { (result ≡ to - from) × (take (to - from) buf.new ≡ take (to - from) (drop from buf.entry.now)) × (length buf.new ≡ length buf.old) }
+    ensures { (result ≡ to - from) × (take (to - from) buf.new ≡ take (to - from) (drop from buf.old)) × (length buf.new ≡ length buf.old) }
 {
-    let n = to - from;
-    let mut i = 0;
-    while i < n {
-        buf[i] = buf[from + i];
-        i += 1;
-    }
-    n
+    buf.copy_within(from..to, 0);
+    to - from
 }
 
 // 65,536 zeros: room for what is read, or for what waits to be written.
@@ -124,10 +97,10 @@ pub fn fill(stdin: Stdin, buf: &mut [u8], have: usize, before: Delivered) -> Del
 {
     let mut input = stdin;
     let got = input.read(&mut buf[have..]);
-    let failed = got.is_err() as u64;
-    let came = count_of(got);
+    let failed = u64::from(got.is_err());
+    let came = got.unwrap_or(0);
     Delivered {
-        all: counted(before.all, came as u64),
+        all: before.all.saturating_add(came as u64),
         room: buf.len() - have,
         came,
         failed,
@@ -174,23 +147,23 @@ fn write(stdout: Stdout, out: &[u8], n: usize) -> usize
     let mut output = stdout;
     let mut taken = 0;
     while taken < n {
-        let took = count_of(output.write(&out[taken..n]));
-        if took == 0 {
-            return taken;
+        match output.write(&out[taken..n]) {
+            Ok(0) | Err(_) => return taken,
+            Ok(took) => taken += took,
         }
-        taken += took;
     }
     taken
 }
 
 // The same, with its evidence.
+#[tactic(auto, unfolding(crate::specs::Evidence::counted))]
 pub fn hand(stdout: Stdout, out: &[u8], n: usize, before: Written) -> Written
     requires { n ≤ length out.now }
     ensures { Hands n before result }
 {
     let taken = write(stdout, out, n);
     Written {
-        all: counted(before.all, n as u64),
+        all: before.all.saturating_add(n as u64),
         handed: n,
         taken,
     }
@@ -203,27 +176,15 @@ pub fn hand(stdout: Stdout, out: &[u8], n: usize, before: Written) -> Written
 pub fn arg(rt: HostRuntime, i: usize, buf: &mut [u8]) -> usize
     ensures { (result ≤ length buf.new) × (length buf.new ≡ length buf.old) }
 {
-    match rt.arg(i, buf) {
-        Ok(n) => n,
-        Err(_) => 0,
-    }
+    rt.arg(i, buf).unwrap_or(0)
 }
 
 // Whether there is an i-th word.
 fn is_there(rt: HostRuntime, i: usize) -> bool {
-    let mut none = [];
-    match rt.arg(i, &mut none) {
-        Err(FillError::NotPresent) => false,
-        _ => true,
-    }
+    !matches!(rt.arg(i, &mut []), Err(FillError::NotPresent))
 }
 
-// How many words there are, the program's name among them.
+// How many words there are, the program's name among them. No contract can say which words a program is started with.
 pub fn arg_count(rt: HostRuntime) -> usize {
-    for i in 0..usize::MAX {
-        if !is_there(rt, i) {
-            return i;
-        }
-    }
-    usize::MAX
+    (0..usize::MAX).take_while(|i| is_there(rt, *i)).count()
 }
