@@ -1,44 +1,52 @@
 -- One turn of each loop over a line, on plain values.
 use mathlib.Core.Path.{◌≡◌, refl, sym, ap, ◌∙◌}
-use mathlib.Core.Bool.{Bool, true, false, ◌&&◌, not, beq}
+use mathlib.Core.Bool.{Bool, true, false, ◌&&◌, not, cond}
 use mathlib.Core.List.{List, [], ◌∷◌}
-use Prim.Native.Nat.{ℕ, suc, ◌+◌, ◌-◌, ◌*◌, ◌^◌, ◌≤◌, ◌<◌}
+use Prim.Native.Nat.{ℕ, zero, suc, ◌+◌, ◌-◌, ◌*◌, ◌^◌, ◌≤◌, ◌<◌}
 use native.Mathlib.Omega.{arith}
 use lib.Dec.{leb, eqb}
-use lib.ListN.{length, drop, get_or, drop_of_length-le}
-use lib.Seq.{drop-cons}
+use Rattle.std.specs.List.{fold, prefix_len}
+use Rattle.std.specs.Cmp.Lexicographic.{pointwise}
+use Rattle.std.proofs.lemmas.List.{take_rest}
+use Rattle.std.proofs.lemmas.List.Sums.{prefix_len-le-length}
+use Rattle.std.proofs.lemmas.List.Folds.{fold_stays}
+use lib.ListN.{length, take, drop, get_or, drop_of_length-le, length-drop}
+use lib.Seq.{drop-cons, drop-drop, length-take-le}
 use lib.IntN.{ℤ, pos, negsuc, ◌-ℤ◌}
 use mir.Syntax.{w64}
 use mir.Val.{SFits, to_z, of_z}
 use mir.ValLaws.{to_z_pos}
 use mir.Facts.{to_z-of_z}
 use borrow.Author.Tests.{leb-true, le-leb, lt-leb, eq-eqb, ne_eqb}
-use Rattle.paper.proofs.Logic.{and_left, and_right}
 use Rattle.paper.proofs.Differences.{minus_one_less_is_negsuc}
 use Rattle.paper.specs.Lists.{pick}
 use Rattle.std.specs.declared.option.Option.{Option}
 use Rattle.std.specs.declared.option.Option.TheVariants.{None, Some}
-use Rattle.text_bytes.specs.Bytes.{is_blank, is_not, run, same, digit_zero, digit_nine, minus_sign}
+use Rattle.text_bytes.specs.Bytes.{is_not, run, same, digit_zero, digit_nine, minus_sign}
 use Rattle.text_bytes.specs.Numbers.{is_digit, size_from, size_of, up_to, above, below, number_of, greatest, least}
 use Rattle.text_bytes.proofs.Spelling.{within_is_digit, low_no_digit, high_no_digit}
-use Rattle.text_word.specs.Parts.{is_solid, is_part, Onward, Capped}
+use Rattle.text_word.specs.Parts.{Onward, Capped}
 
 -- ---- a run of bytes that pass a test
 
--- a byte is in a run of blanks, or of a word's bytes, where it is a blank as they are
-pub in_part : (b : ℕ) (blanks x : Bool) → x ≡ is_blank b → not (beq x blanks) ≡ false → is_part blanks b ≡ true
-unfolding is_part is_solid
-in_part b true true e f = sym e
-in_part b true false e f = sym e ∙ sym f
-in_part b false true e f = ap not (sym e) ∙ sym f
-in_part b false false e f = ap not (sym e)
+-- the library's word for how many in front pass a test
+run_is : (q : ℕ → Bool) (t : List ℕ) → prefix_len q t ≡ run q t
+unfolding run
+run_is q [] = refl
+run_is q (b ∷ t) = go (q b) (run_is q t)
+  where
+    go : (x : Bool) → prefix_len q t ≡ run q t → cond x (1 + prefix_len q t) 0 ≡ pick x (suc (run q t)) 0
+    go true e = omega (arith, e)
+    go false e = refl
 
-pub not_in_part : (b : ℕ) (blanks x : Bool) → x ≡ is_blank b → not (beq x blanks) ≡ true → is_part blanks b ≡ false
-unfolding is_part is_solid
-not_in_part b true true e f = sym e ∙ sym f
-not_in_part b true false e f = sym e
-not_in_part b false true e f = ap not (sym e)
-not_in_part b false false e f = ap not (sym e) ∙ sym f
+-- the end of the run from a place on
+pub run_ends : (q : ℕ → Bool) (t : List ℕ) (from n : ℕ) → from ≤ length t → n ≡ prefix_len q (take (length t - from) (drop from t))
+    → (from + n ≡ from + run q (drop from t)) × (from + n ≤ length t)
+run_ends q t from n h e =
+    let p : n ≡ prefix_len q (drop from t) = rw (take_rest t from) at e in
+    let r : n ≡ run q (drop from t) = p ∙ run_is q (drop from t) in
+    let l : n ≤ length t - from = rw (p, ← length-drop from t) (prefix_len-le-length q (drop from t)) in
+    (omega (arith, r), omega (arith, l))
 
 pub running_none : (q : ℕ → Bool) (t : List ℕ) (from : ℕ) → from ≤ length t → Onward q t from from
 running_none q t from h = record { in_t = h; rest = refl }
@@ -73,29 +81,44 @@ module _ (q : ℕ → Bool) (t : List ℕ) (from i : ℕ) (p : Onward q t from i
 pub onward_both : (q : ℕ → Bool) (t : List ℕ) (i j k m : ℕ) → Onward q t i j → Onward q t j k → k ≡ m → Onward q t i m
 onward_both q t i j k m o p e = rw (← e) (record { in_t = p.in_t; rest = p.rest ∙ o.rest })
 
-four_more : (q : ℕ → Bool) (t : List ℕ) (i : ℕ) → i + 4 ≤ length t → q (get_or t i 0) ≡ true
-    → q (get_or t (i + 1) 0) ≡ true → q (get_or t (i + 2) 0) ≡ true → q (get_or t (i + 3) 0) ≡ true → Onward q t i (i + 4)
-four_more q t i h a b c d =
-    let none : Onward q t i i = running_none q t i (omega arith) in
-    let one : Onward q t i (i + 1) = running_at q t i i none (i + 1) (omega arith) (omega arith) a in
-    let two : Onward q t i (i + 2) = running_at q t i (i + 1) one (i + 2) (omega arith) (omega arith) b in
-    let three : Onward q t i (i + 3) = running_at q t i (i + 2) two (i + 3) (omega arith) (omega arith) c in
-    running_at q t i (i + 3) three (i + 4) (omega arith) (omega arith) d
+-- ---- no byte among many
 
-pub four_none : (b : ℕ) (t : List ℕ) (i : ℕ) → i + 4 ≤ length t
-    → ((not (eqb (get_or t i 0) b) && not (eqb (get_or t (i + 1) 0) b)) && not (eqb (get_or t (i + 2) 0) b))
-    && not (eqb (get_or t (i + 3) 0) b) ≡ true
-    → Onward (is_not b) t i (i + 4)
-unfolding is_not
-four_none b t i h e =
-    let first : Bool = not (eqb (get_or t i 0) b) in
-    let second : Bool = not (eqb (get_or t (i + 1) 0) b) in
-    let third : Bool = not (eqb (get_or t (i + 2) 0) b) in
-    let fourth : Bool = not (eqb (get_or t (i + 3) 0) b) in
-    let three : (first && second) && third ≡ true = and_left ((first && second) && third) fourth e in
-    let two : first && second ≡ true = and_left (first && second) third three in
-    four_more (is_not b) t i h (and_left first second two) (and_right first second two)
-    (and_right (first && second) third three) (and_right ((first && second) && third) fourth e)
+abbrev none : ℕ → List ℕ → Bool
+none b t = fold (λ n x. n && not (eqb x b)) true t
+
+none_run : (b : ℕ) (t : List ℕ) → none b t ≡ true → run (is_not b) t ≡ length t
+unfolding run is_not
+none_run b [] e = refl
+none_run b (x ∷ t) e = go (not (eqb x b)) e (none_run b t)
+  where
+    go : (n : Bool) → fold (λ n x. n && not (eqb x b)) n t ≡ true → (none b t ≡ true → run (is_not b) t ≡ length t)
+        → pick n (suc (run (is_not b) t)) 0 ≡ suc (length t)
+    go true e h = ap suc (h e)
+    go false e h =
+        let z : false ≡ true = sym (fold_stays (λ n x. n && not (eqb x b)) false (λ x. refl) t) ∙ e in
+        cc
+
+run_on : (q : ℕ → Bool) (n : ℕ) (t : List ℕ) → n ≤ length t → run q (take n t) ≡ n → run q t ≡ n + run q (drop n t)
+unfolding run
+run_on q zero t h e = omega arith
+run_on q (suc n) [] h e = let z : ⊥ = omega arith in absurd z
+run_on q (suc n) (x ∷ t) h e = go (q x) e (run_on q n t (omega arith))
+  where
+    go : (y : Bool) → pick y (suc (run q (take n t))) 0 ≡ suc n → (run q (take n t) ≡ n → run q t ≡ n + run q (drop n t))
+        → pick y (suc (run q t)) 0 ≡ suc n + run q (drop n t)
+    go true f h = let i : run q t ≡ n + run q (drop n t) = h (omega (arith, f)) in omega (arith, i)
+    go false f h = let z : ⊥ = omega arith in absurd z
+
+-- the run goes on behind n bytes of which none is b
+pub none_onward : (b : ℕ) (t : List ℕ) (i n m : ℕ) (r : Bool) → i + n ≤ length t → m ≡ n
+    → r ≡ none b (take m (drop i t)) → r ≡ true → Onward (is_not b) t i (i + n)
+none_onward b t i n m r h f e y =
+    let g : none b (take n (drop i t)) ≡ true = rw (← f) (sym e ∙ y) in
+    let l : n ≤ length (drop i t) = rw (length-drop i t) (omega arith) in
+    let k : run (is_not b) (take n (drop i t)) ≡ n = none_run b (take n (drop i t)) g ∙ length-take-le n (drop i t) l in
+    let o : run (is_not b) (drop i t) ≡ n + run (is_not b) (drop n (drop i t)) = run_on (is_not b) n (drop i t) l k in
+    let d : drop n (drop i t) ≡ drop (i + n) t = drop-drop n i t ∙ ap (λ (k : ℕ). drop k t) (omega arith) in
+    record { in_t = h; rest = rw (← d) (omega (arith, o)) }
 
 -- ---- digits
 
@@ -233,49 +256,13 @@ signed_plus (b ∷ t) r n e o q s = rw (ne_eqb b minus_sign e, ← q) s
 
 -- ---- two words
 
-pub record Matching (p w : List ℕ) (i : ℕ) : Type 0 where
-  pub in_p : i ≤ length p
-  pub long : length p ≡ length w
-  pub rest : same (drop i p) (drop i w) ≡ same p w
-
-pub same_long : (p w : List ℕ) → (length p ≡ length w → ⊥) → false ≡ same p w
+pub same_is : (p w : List ℕ) → pointwise eqb p w ≡ same p w
 unfolding same
-same_long [] [] n = absurd (n refl)
-same_long [] (c ∷ w) n = refl
-same_long (b ∷ p) [] n = refl
-same_long (b ∷ p) (c ∷ w) n = go (eqb b c) (same_long p w (λ e. n (ap suc e)))
+same_is [] [] = refl
+same_is [] (c ∷ w) = refl
+same_is (b ∷ p) [] = refl
+same_is (b ∷ p) (c ∷ w) = go (eqb b c) (same_is p w)
   where
-    go : (x : Bool) → false ≡ same p w → false ≡ pick x (same p w) false
+    go : (x : Bool) → pointwise eqb p w ≡ same p w → (x && pointwise eqb p w) ≡ pick x (same p w) false
     go true e = e
     go false e = refl
-
-module _ (p w : List ℕ) (i : ℕ) (m : Matching p w i) where
-  pub matching_not : i < length p → (get_or p i 0 ≡ get_or w i 0 → ⊥) → false ≡ same p w
-  unfolding same
-  matching_not h n =
-      let k : i < length w = omega (arith, m.long) in
-      rw (drop-cons p i 0 h, drop-cons w i 0 k, ne_eqb (get_or p i 0) (get_or w i 0) n) at m.rest
-
-  pub matching_more : i < length p → get_or p i 0 ≡ get_or w i 0 → Matching p w (i + 1)
-  unfolding same
-  matching_more h e =
-      let k : i < length w = omega (arith, m.long) in
-      let f : i + 1 ≡ suc i = omega arith in
-      record {
-        in_p = omega arith;
-        long = m.long;
-        rest = rw f (rw (
-          drop-cons p i 0 h,
-          drop-cons w i 0 k,
-          eq-eqb (get_or
-              p i 0) (get_or w i 0) e,
-        ) at m.rest);
-      }
-
-  pub matching_all : length p ≤ i → true ≡ same p w
-  unfolding same
-  matching_all h = let k : length w ≤ i = omega (arith, m.long) in rw (drop_of_length-le p h, drop_of_length-le w k)
-      at m.rest
-
-pub matching_none : (p w : List ℕ) → length p ≡ length w → Matching p w 0
-matching_none p w e = record { in_p = omega arith; long = e; rest = refl }

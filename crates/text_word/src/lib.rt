@@ -1,7 +1,8 @@
 // The words of a line, lent: where they begin and end, and which number a word spells.
 #![tactic(auto)]
 
-ghost use Rattle.std.specs.Prelude.{◌≡◌, true, ◌+◌, ◌≤◌, ◌<◌, ◌^◌, length, take, drop};
+ghost use Rattle.std.specs.Prelude.{◌≡◌, true, not, ◌&&◌, ◌==◌, ◌+◌, ◌≤◌, ◌<◌, ◌^◌, length, take, drop};
+ghost use Rattle.std.specs.List.{fold, prefix_len};
 ghost use Rattle.text_bytes.specs.Bytes.{is_blank, is_not, run, same};
 ghost use Rattle.text_bytes.specs.Numbers.{size_from, up_to, above, below, number_of, greatest, least};
 ghost use Rattle.text_protocol.specs.Line.{two_of, item_of};
@@ -24,31 +25,31 @@ const SIZE_BEFORE_ANY_DIGIT: u64 = 922_337_203_685_477_579;
 // ---- where words begin and end
 
 // A space, a tab and a carriage return part words.
+#[tactic(auto, unfolding(text_bytes::specs::Bytes::is_blank))]
 fn is_blank(b: u8) -> bool
     ensures { result ≡ is_blank b }
 {
-    if b == b' ' {
-        return true;
-    }
-    if b == b'\t' {
-        return true;
-    }
-    b == b'\r'
+    matches!(b, b' ' | b'\t' | b'\r')
 }
 
-// The end of the run from `from` on of bytes that are blanks, or of bytes that are none.
-fn past(l: &[u8], from: usize, blanks: bool) -> usize
-    requires { from ≤ length l.now }
-    ensures { (result ≡ from + run (is_part blanks) (drop from l.now)) × (result ≤ length l.now) }
+// How many bytes in front are blanks; and how many are none.
+fn blanks(l: &[u8]) -> usize
+    ensures { result ≡ prefix_len is_blank l.now }
 {
-    let mut i = from;
-    while i < l.len() {
-        if is_blank(l[i]) != blanks {
-            return i;
-        }
-        i += 1;
-    }
-    i
+    l.iter().take_while(|b| is_blank(**b)).count()
+}
+
+fn solids(l: &[u8]) -> usize
+    ensures { result ≡ prefix_len (λ b. not (is_blank b)) l.now }
+{
+    l.iter().take_while(|b| !is_blank(**b)).count()
+}
+
+// How many bytes in front are another than b.
+fn others(l: &[u8], b: u8) -> usize
+    ensures { result ≡ prefix_len (λ x. not (x == b)) l.now }
+{
+    l.iter().take_while(|x| **x != b).count()
 }
 
 // The end of the blanks from `from` on.
@@ -56,7 +57,7 @@ pub fn past_blanks(l: &[u8], from: usize) -> usize
     requires { from ≤ length l.now }
     ensures { (result ≡ from + run is_blank (drop from l.now)) × (result ≤ length l.now) }
 {
-    past(l, from, true)
+    from + blanks(&l[from..])
 }
 
 // The end of the word from `from` on.
@@ -64,54 +65,23 @@ pub fn past_word(l: &[u8], from: usize) -> usize
     requires { from ≤ length l.now }
     ensures { (result ≡ from + run is_solid (drop from l.now)) × (result ≤ length l.now) }
 {
-    past(l, from, false)
+    from + solids(&l[from..])
 }
 
-// Whether none of the four bytes from i on is b. The compiler compares as many as are asked for at once, so that these
-// tests have no branch of their own.
-fn none_of_4(l: &[u8], i: usize, b: u8) -> bool
-    requires { i + 4 ≤ length l.now }
-    ensures { result ≡ true → Onward (is_not b) l.now i (i + 4) }
+// Whether no byte is b. Each is compared, as many at once as the compiler can: none has a branch of its own.
+fn none_is(l: &[u8], b: u8) -> bool
+    ensures { result ≡ fold (λ none x. none && not (x == b)) true l.now }
 {
-    (l[i] != b) & (l[i + 1] != b) & (l[i + 2] != b) & (l[i + 3] != b)
+    l.iter().fold(true, |none, x| none & (*x != b))
 }
 
-fn none_of_8(l: &[u8], i: usize, b: u8) -> bool
-    requires { i + 8 ≤ length l.now }
-    ensures { result ≡ true → Onward (is_not b) l.now i (i + 8) }
-{
-    none_of_4(l, i, b) & none_of_4(l, i + 4, b)
-}
-
-fn none_of_16(l: &[u8], i: usize, b: u8) -> bool
-    requires { i + 16 ≤ length l.now }
-    ensures { result ≡ true → Onward (is_not b) l.now i (i + 16) }
-{
-    none_of_8(l, i, b) & none_of_8(l, i + 8, b)
-}
-
-// Past the next eight bytes, where none of them is b.
-fn past_8(l: &[u8], i: usize, b: u8) -> usize
+// Past the next N bytes, where none of them is b.
+fn past<const N: usize>(l: &[u8], i: usize, b: u8) -> usize
     requires { i ≤ length l.now }
     ensures { Onward (is_not b) l.now i result }
 {
-    if 8 <= l.len() - i {
-        if none_of_8(l, i, b) {
-            return i + 8;
-        }
-    }
-    i
-}
-
-// Past the next four.
-fn past_4(l: &[u8], i: usize, b: u8) -> usize
-    requires { i ≤ length l.now }
-    ensures { Onward (is_not b) l.now i result }
-{
-    if 4 <= l.len() - i {
-        if none_of_4(l, i, b) {
-            return i + 4;
-        }
+    if N <= l.len() - i && none_is(&l[i..i + N], b) {
+        return i + N;
     }
     i
 }
@@ -121,15 +91,8 @@ fn find_near(l: &[u8], from: usize, b: u8) -> usize
     requires { from ≤ length l.now }
     ensures { (result ≡ from + run (is_not b) (drop from l.now)) × (result ≤ length l.now) }
 {
-    let start = past_4(l, past_8(l, from, b), b);
-    let mut i = start;
-    while i < l.len() {
-        if l[i] == b {
-            return i;
-        }
-        i += 1;
-    }
-    i
+    let start = past::<4>(l, past::<8>(l, from, b), b);
+    start + others(&l[start..], b)
 }
 
 // Where the first byte b stands from `from` on, or the end. Most bytes of a line are passed sixteen at a time.
@@ -139,7 +102,7 @@ pub fn find(l: &[u8], from: usize, b: u8) -> usize
 {
     let mut i = from;
     while 16 <= l.len() - i {
-        if !none_of_16(l, i, b) {
+        if !none_is(&l[i..i + 16], b) {
             return find_near(l, i, b);
         }
         i += 16;
@@ -151,17 +114,7 @@ pub fn find(l: &[u8], from: usize, b: u8) -> usize
 pub fn same_bytes(p: &[u8], w: &[u8]) -> bool
     ensures { result ≡ same p.now w.now }
 {
-    if p.len() != w.len() {
-        return false;
-    }
-    let mut i = 0;
-    while i < p.len() {
-        if p[i] != w[i] {
-            return false;
-        }
-        i += 1;
-    }
-    true
+    p == w
 }
 
 // Whether a word ends at a place: the text ends there, or a blank stands there.
@@ -177,12 +130,6 @@ fn ends_at(l: &[u8], at: usize) -> bool
 
 // ---- numbers
 
-fn wide(b: u8) -> u64
-    ensures { result ≡ b }
-{
-    b as u64
-}
-
 // The size that the bytes from `from` on spell, unless it is above `most`.
 fn number_from(p: &[u8], from: usize, most: u64) -> Option<u64>
     requires { (from ≤ length p.now) × (most < 2 ^ 63 + 1) }
@@ -191,7 +138,7 @@ fn number_from(p: &[u8], from: usize, most: u64) -> Option<u64>
     let mut i = from;
     let mut x: u64 = 0;
     while i < p.len() {
-        let b = wide(p[i]);
+        let b = u64::from(p[i]);
         if b < DIGIT_ZERO {
             return None;
         }
@@ -304,7 +251,7 @@ fn digits_at(l: &[u8], from: usize) -> Digits
     let mut i = from;
     let mut x: u64 = 0;
     while i < l.len() {
-        let b = wide(l[i]);
+        let b = u64::from(l[i]);
         if b < DIGIT_ZERO {
             return Digits { end: i, size: x };
         }

@@ -15,7 +15,7 @@ returns-then-x-gt-SIZE_BEFORE_ANY_DIGIT c = c.loop-i.invariant
 
 pub loop-i-preserved : goal.loop-i-preserved
 loop-i-preserved c =
-    leads_more _ _ _ _ c.loop-i.invariant c.loop-i-test.true _ c.wide-b.ensures
+    leads_more _ _ _ _ c.loop-i.invariant c.loop-i-test.true _ c.from-b.ensures
     c.if-b-lt-DIGIT_ZERO.false c.if-b-gt-DIGIT_NINE.false c.if-x-gt-SIZE_BEFORE_ANY_DIGIT.false
 
 pub returns : goal.returns

@@ -8,26 +8,26 @@ loop-i-init c = counting_none _ _ _ c.requires.0
 
 pub returns-then-b-lt-DIGIT_ZERO : goal.returns-then-b-lt-DIGIT_ZERO
 returns-then-b-lt-DIGIT_ZERO c = counting_low _ _ _ _ _ c.loop-i.invariant
-    c.loop-i-test.true _ c.wide-b.ensures c.if-b-lt-DIGIT_ZERO.true
+    c.loop-i-test.true _ c.from-b.ensures c.if-b-lt-DIGIT_ZERO.true
 
 pub returns-then-b-gt-DIGIT_NINE : goal.returns-then-b-gt-DIGIT_NINE
 returns-then-b-gt-DIGIT_NINE c =
-    counting_high _ _ _ _ _ c.loop-i.invariant c.loop-i-test.true _ c.wide-b.ensures
+    counting_high _ _ _ _ _ c.loop-i.invariant c.loop-i-test.true _ c.from-b.ensures
     c.if-b-gt-DIGIT_NINE.true
 
 pub returns-then-x-gt-SIZE_BEFORE_ONE_MORE_DIGIT : goal.returns-then-x-gt-SIZE_BEFORE_ONE_MORE_DIGIT
 returns-then-x-gt-SIZE_BEFORE_ONE_MORE_DIGIT c =
-    counting_over _ _ _ _ _ c.loop-i.invariant c.loop-i-test.true _ c.wide-b.ensures
+    counting_over _ _ _ _ _ c.loop-i.invariant c.loop-i-test.true _ c.from-b.ensures
     c.if-b-lt-DIGIT_ZERO.false c.if-b-gt-DIGIT_NINE.false (omega arith)
 
 pub returns-then-most-y : goal.returns-then-most-y
 returns-then-most-y c =
-    counting_over _ _ _ _ _ c.loop-i.invariant c.loop-i-test.true _ c.wide-b.ensures
+    counting_over _ _ _ _ _ c.loop-i.invariant c.loop-i-test.true _ c.from-b.ensures
     c.if-b-lt-DIGIT_ZERO.false c.if-b-gt-DIGIT_NINE.false c.if-most-y.true
 
 pub loop-i-preserved : goal.loop-i-preserved
 loop-i-preserved c =
-    counting_more _ _ _ _ _ c.loop-i.invariant c.loop-i-test.true _ c.wide-b.ensures
+    counting_more _ _ _ _ _ c.loop-i.invariant c.loop-i-test.true _ c.from-b.ensures
     c.if-b-lt-DIGIT_ZERO.false c.if-b-gt-DIGIT_NINE.false c.if-most-y.false
 
 pub returns : goal.returns
