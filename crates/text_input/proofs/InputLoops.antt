@@ -10,6 +10,7 @@ use native.Mathlib.Numerals.{lt_of_le_of_ne}
 use borrow.Author.Tests.{lt-ltb}
 use lib.ListN.{length, take, drop, length-append, length-drop}
 use lib.Seq.{take-add, take-take, length-take-le}
+use Rattle.std.specs.Prelude.{None, Some}
 use Rattle.paper.specs.Lists.{pick}
 use Rattle.text_bytes.specs.Bytes.{line_feed, is_not, run, room}
 use Rattle.text_evidence.specs.declared.Delivered.{Delivered}
@@ -197,17 +198,13 @@ passing_none was b l =
 
 module _ {was : Delivered} {b : List ℕ} {turns : ℕ} {read : Delivered} (p : Passing was b turns read) where
   -- no turn is left
-  pub passing_spent : turns ≤ 0 → Passes was b (record { at = 0; len = 0; ended = true; read = read })
-  unfolding counted
+  pub passing_spent : turns ≤ 0 → Passes was b (record { behind = None; read = read })
   passing_spent h =
       record {
         before = p.before;
         unbroken = p.unbroken;
-        low = omega arith;
-        in_b = omega arith;
         long = p.long;
-        count = omega (arith, p.count);
-        is = inl (refl, refl, inr (omega (arith, p.spent)));
+        is = (p.count, inr (omega (arith, p.spent)));
       }
 
   -- k bytes come
@@ -218,17 +215,17 @@ module _ {was : Delivered} {b : List ℕ} {turns : ℕ} {read : Delivered} (p : 
     fits : k ≤ room
     fits = omega (arith, f.most, f.room, p.long, came)
 
-    pub passing_end : k ≡ 0 → Passes was b' (record { at = 0; len = 0; ended = true; read = r })
+    pub passing_end : k ≡ 0 → Passes was b' (record { behind = None; read = r })
     unfolding counted
     passing_end e =
         record {
           before = p.before;
           unbroken = p.unbroken;
-          low = omega arith;
-          in_b = omega arith;
           long = long_now;
-          count = omega (arith, p.count, f.count, e, came);
-          is = inl (refl, refl, inl (ended_by r (omega (arith, f.room, p.long)) (sym came ∙ e)));
+          is = (
+            omega (arith, p.count, f.count, e, came),
+            inl (ended_by r (omega (arith, f.room, p.long)) (sym came ∙ e)),
+          );
         }
 
     module _ (e : ℕ) (is : e ≡ 0 + run (is_not line_feed) (drop 0 (take k b'))) where
@@ -236,17 +233,20 @@ module _ {was : Delivered} {b : List ℕ} {turns : ℕ} {read : Delivered} (p : 
       unfolding line_length
       seen_at = omega (arith, is)
 
-      pub passing_found : e < k → Passes was b' (record { at = e + 1; len = k; ended = false; read = r })
+      pub passing_found : e < k → Passes was b'
+          (record { behind = Some (record { at = e + 1; len = k }); read = r })
       unfolding counted
       passing_found h =
           record {
             before = p.before;
             unbroken = p.unbroken;
-            low = omega arith;
-            in_b = fits;
             long = long_now;
-            count = omega (arith, p.count, f.count, came);
-            is = inr (refl, rw (← seen_at), rw (← seen_at) h);
+            is = record {
+              is = rw (← seen_at);
+              in_len = rw (← seen_at) h;
+              in_b = fits;
+              count = omega (arith, p.count, f.count, came);
+            };
           }
 
       pub passing_more : (left : ℕ) → turns ≤ left + 1 → (k ≡ 0 → ⊥) → k ≤ e → e ≤ length (take k b')

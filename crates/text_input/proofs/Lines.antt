@@ -10,19 +10,20 @@ use lib.IntN.{ℤ}
 use lib.ListN.{length, take, drop, get_or, length-append, length-drop}
 use lib.Seq.{split_at, take-take, drop-drop, length-take-le}
 use borrow.Author.Tests.{eqb-true}
+use Rattle.std.specs.Prelude.{None, Some}
 use Rattle.paper.specs.Lists.{pick}
 use Rattle.text_bytes.specs.Bytes.{line_feed, is_not, run, room}
 use Rattle.text_protocol.specs.Line.{meaning, kept_most, longest}
 use Rattle.text_evidence.specs.declared.Delivered.{Delivered}
-use Rattle.text_evidence.specs.Evidence.{has_ended, counted_none, counted_on}
+use Rattle.text_evidence.specs.Evidence.{has_ended, Counted, counted_none, counted_on}
 use Rattle.text_line.specs.declared.Line.{Line}
 use Rattle.text_line.specs.ReadLine.{bad_line, LineSays}
 use Rattle.text_line.proofs.LineLoop.{long_line}
 use Rattle.text_input.specs.declared.Input.{Input}
+use Rattle.text_input.specs.declared.Behind.{Behind}
 use Rattle.text_input.specs.declared.Passed.{Passed}
-use Rattle.text_input.specs.Input.{line_length, Unbroken, unread, Stands, StandsAt, Over, Ends, Next, Passes}
+use Rattle.text_input.specs.Input.{line_length, Unbroken, unread, Stands, StandsAt, Over, Ends, Next, Passes, Found}
 use Rattle.text_input.specs.Input.{Readied, LongPassed}
-use Rattle.paper.proofs.Logic.{not_true_and_false}
 use Rattle.text_input.proofs.InputLoops.{unbroken_both}
 use Rattle.text_evidence.proofs.Shifting.{drop_take_of}
 
@@ -244,51 +245,48 @@ not_full {A} len p h = ⊎_elim (λ k. never k) (λ e. e) p
 -- ---- behind a line that is longer than the buffer
 
 module _ (was : Delivered) (b : List ℕ) (p : Passed) (q : Passes was b p) (left : ℕ) (r : Input) where
-  pub long_ended : p.ended ≡ true
-      → r ≡ record { at = p.len; end = p.len; len = p.len; left = 0; read = p.read } → LongPassed was b left r
-  long_ended over-now e =
+  pub long_ended : p.behind ≡ None
+      → r ≡ record { at = 0; end = 0; len = 0; left = 0; read = p.read } → LongPassed was b left r
+  long_ended none e =
       rw e
       (record {
         rest = q.before;
         unbroken = q.unbroken;
         got = q.before;
-        count = rw none at q.count;
+        count = over.0;
         are = inr (refl, refl, refl, over.1);
         stands = standing;
       })
     where
-      over : (p.len ≡ 0) × Over p.read q.before
-      over = ⊎_elim (λ e. (e.1, e.2)) (λ e. absurd (not_true_and_false p.ended over-now e.0)) q.is
+      over : Counted was.all (length q.before) p.read.all × Over p.read q.before
+      over = rw none at q.is
 
-      none : length q.before + p.len ≡ length q.before
-      none = omega (arith, over.0)
-
-      standing : Stands b (record { at = p.len; end = p.len; len = p.len; left = 0; read = p.read })
+      standing : Stands b (record { at = 0; end = 0; len = 0; left = 0; read = p.read })
       standing = record {
         low = omega arith;
         high = omega arith;
-        in_b = q.in_b;
+        in_b = omega arith;
         long = q.long;
-        is = empty_end b p.len p.read;
+        is = empty_end b 0 p.read;
       }
 
-  module _ (no : p.ended ≡ false) (at : r.at ≡ p.at) (len : r.len ≡ p.len) (fewer : r.left ≡ left - 1)
-      (same : r.read ≡ p.read) (s : Stands b r) where
-    found : (p.at ≡ line_length (take p.len b) + 1) × (line_length (take p.len b) < p.len)
-    found = ⊎_elim (λ e. absurd (not_true_and_false p.ended e.0 no)) (λ e. (e.1, e.2)) q.is
+  module _ (f : Behind) (some : p.behind ≡ Some f) (at : r.at ≡ f.at) (len : r.len ≡ f.len)
+      (fewer : r.left ≡ left - 1) (same : r.read ≡ p.read) (s : Stands b r) where
+    found : Found was q.before b f p.read
+    found = rw some at q.is
 
     pub long_found : LongPassed was b left r
     long_found =
-        let t : List ℕ = take p.len b in
-        let o : length t ≡ p.len = length-take-le p.len b (omega (arith, q.in_b, q.long)) in
-        let h : line_length t < length t = omega (arith, found.1, o) in
+        let t : List ℕ = take f.len b in
+        let o : length t ≡ f.len = length-take-le f.len b (omega (arith, found.in_b, q.long)) in
+        let h : line_length t < length t = omega (arith, found.in_len, o) in
         let u : t ≡ take (line_length t) t ++ line_feed ∷ drop (suc (line_length t)) t = line_split t h in
         let v : drop (suc (line_length t)) t ≡ unread b r = behind_is in
         record {
           rest = q.before ++ take (line_length t) t;
           unbroken = unbroken_both q.before (take (line_length t) t) q.unbroken (line_unbroken t);
           got = q.before ++ t;
-          count = rw (same, length-append q.before t, o) q.count;
+          count = rw (same, length-append q.before t, o) found.count;
           are =
               inl (
                 ap (λ (x : List ℕ). q.before ++ x) (u ∙ rw v)
@@ -298,5 +296,5 @@ module _ (was : Delivered) (b : List ℕ) (p : Passed) (q : Passes was b p) (lef
           stands = s;
         }
       where
-        behind_is : drop (suc (line_length (take p.len b))) (take p.len b) ≡ unread b r
-        behind_is = unread_behind b r (suc (line_length (take p.len b))) p.len (omega (arith, at, found.0)) len
+        behind_is : drop (suc (line_length (take f.len b))) (take f.len b) ≡ unread b r
+        behind_is = unread_behind b r (suc (line_length (take f.len b))) f.len (omega (arith, at, found.is)) len

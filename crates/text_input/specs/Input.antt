@@ -1,5 +1,5 @@
 -- What is left of the input, and the next line of it.
-use Rattle.std.specs.Prelude.{◌≡◌, ◌⊎◌, true, false, List, ◌∷◌, ◌++◌, ℕ, ◌+◌, ◌-◌, ◌≤◌, ◌<◌, ℤ, length, take, drop}
+use Rattle.std.specs.Prelude.{◌≡◌, ◌⊎◌, true, List, ◌∷◌, ◌++◌, ℕ, ◌+◌, ◌-◌, ◌≤◌, ◌<◌, ℤ, length, take, drop, MatchOption}
 use Rattle.text_bytes.specs.Bytes.{room, line_feed, is_not, run}
 use Rattle.text_protocol.specs.Line.{meaning, longest}
 use Rattle.text_line.specs.ReadLine.{LineSays}
@@ -7,6 +7,7 @@ use Rattle.text_evidence.specs.declared.Delivered.{Delivered}
 use Rattle.text_evidence.specs.Evidence.{count_most, has_ended, Counted}
 use Rattle.text_input.specs.declared.Input.{Input}
 use Rattle.text_input.specs.declared.Waited.{Waited}
+use Rattle.text_input.specs.declared.Behind.{Behind}
 use Rattle.text_input.specs.declared.Passed.{Passed}
 use Rattle.text_input.specs.declared.Heard.{Heard}
 
@@ -69,15 +70,18 @@ pub record Waits (b : List ℕ) (have : ℕ) (before : Delivered) (b' : List ℕ
 
 -- the rest of a line is passed over: the pieces `before` of it, which have no line feed, and then what stands before
 -- `at`; or the input has ended
+pub record Found (was : Delivered) (before b' : List ℕ) (r : Behind) (read : Delivered) : Type 0 where
+  pub is : r.at ≡ line_length (take r.len b') + 1
+  pub in_len : line_length (take r.len b') < r.len
+  pub in_b : r.len ≤ room
+  pub count : Counted was.all (length before + r.len) read.all
+
 pub record Passes (was : Delivered) (b' : List ℕ) (r : Passed) : Type 0 where
   pub before : List ℕ
   pub unbroken : Unbroken before
-  pub low : r.at ≤ r.len
-  pub in_b : r.len ≤ room
   pub long : length b' ≡ room
-  pub count : Counted was.all (length before + r.len) r.read.all
-  pub is : ((r.ended ≡ true) × (r.len ≡ 0) × Over r.read before)
-      ⊎ ((r.ended ≡ false) × (r.at ≡ line_length (take r.len b') + 1) × (line_length (take r.len b') < r.len))
+  pub is : MatchOption r.behind (Counted was.all (length before) r.read.all × Over r.read before)
+      (λ f. Found was before b' f r.read)
 
 -- more is delivered, so that a line is whole, or the buffer is full, or the input has ended
 pub record Readied (b : List ℕ) (s : Input) (b' : List ℕ) (r : Input) : Type 0 where

@@ -31,12 +31,17 @@ pub struct Waited {
     pub read: Delivered,
 }
 
-// What passing over the rest of a line led to.
+// Where the bytes that were delivered behind a line begin and end.
 #[derive(Clone, Copy)]
-pub struct Passed {
+pub struct Behind {
     pub at: usize,
     pub len: usize,
-    pub ended: bool,
+}
+
+// What passing over the rest of a line led to: what stands behind it, unless the input has ended.
+#[derive(Clone, Copy)]
+pub struct Passed {
+    pub behind: Option<Behind>,
     pub read: Delivered,
 }
 
@@ -77,42 +82,26 @@ fn wait(stdin: Stdin, buf: &mut [u8], have: usize, before: Delivered) -> Waited
     }
 }
 
-// Passes over the rest of a line that is longer than the buffer. Nothing says that it ends, so the reads are counted
-// down from a number that no run uses up.
+// Passes over the rest of a line that is longer than the buffer. Nothing says that it ends, so the reads are counted up
+// to a number that no run reaches.
 fn pass_over(stdin: Stdin, buf: &mut [u8], before: Delivered) -> Passed
     requires { length buf.old ≡ room }
     ensures { Passes before buf.new result }
 {
-    let mut turns = u64::MAX;
     let mut read = before;
-    while 0 < turns {
-        turns -= 1;
+    for _turn in 0..u64::MAX {
         read = fill(stdin, buf, 0, read);
         let n = read.came();
         if n == 0 {
-            return Passed {
-                at: 0,
-                len: 0,
-                ended: true,
-                read,
-            };
+            return Passed { behind: None, read };
         }
         let e = find(&buf[..n], 0, b'\n');
         if e < n {
-            return Passed {
-                at: e + 1,
-                len: n,
-                ended: false,
-                read,
-            };
+            let behind = Some(Behind { at: e + 1, len: n });
+            return Passed { behind, read };
         }
     }
-    Passed {
-        at: 0,
-        len: 0,
-        ended: true,
-        read,
-    }
+    Passed { behind: None, read }
 }
 
 // So that a line is whole, or the buffer is full, or the input has ended: reads where no line is whole yet.
@@ -120,31 +109,18 @@ fn ready(stdin: Stdin, buf: &mut [u8], s: Input) -> Input
     requires { Stands buf.old s }
     ensures { Readied buf.old s buf.new result }
 {
-    let at = s.at;
-    let len = s.len;
-    if s.end < len {
+    if s.end < s.len {
         return s;
     }
-    let n = shift(buf, at, len);
-    let before = s.read;
-    let w = wait(stdin, buf, n, before);
-    let read = w.read;
+    let n = shift(buf, s.at, s.len);
+    let w = wait(stdin, buf, n, s.read);
     Input {
         at: 0,
         end: w.end,
         len: w.len,
-        left: s.left,
-        read,
+        read: w.read,
+        ..s
     }
-}
-
-fn one_less(n: u64) -> u64
-    ensures { result ≡ n - 1 }
-{
-    if 0 < n {
-        return n - 1;
-    }
-    0
 }
 
 // The input from `at` on, with a line fewer to hear.
@@ -158,7 +134,7 @@ fn from_place(buf: &[u8], at: usize, len: usize, left: u64, read: Delivered) -> 
         at,
         end,
         len,
-        left: one_less(left),
+        left: left.saturating_sub(1),
         read,
     }
 }
@@ -192,12 +168,10 @@ fn behind_long(stdin: Stdin, buf: &mut [u8], left: u64, before: Delivered) -> In
     ensures { LongPassed before buf.new left result }
 {
     let p = pass_over(stdin, buf, before);
-    let over = p.ended;
-    let read = p.read;
-    if over {
-        return ended(p.len, read);
+    match p.behind {
+        Some(b) => from_place(buf, b.at, b.len, left, p.read),
+        None => ended(0, p.read),
     }
-    from_place(buf, p.at, p.len, left, read)
 }
 
 // The next line. Where no line is whole, the input is waited for.
@@ -206,24 +180,18 @@ pub fn hear(stdin: Stdin, buf: &mut [u8], xs: &mut [i64], s: Input) -> Heard
     ensures { Hears buf.old s buf.new result xs.new }
 {
     let i = ready(stdin, buf, s);
-    let at = i.at;
-    let end = i.end;
-    let len = i.len;
-    let left = i.left;
-    let read = i.read;
-    if end < len {
-        let line = read_line(&buf[at..end], xs);
-        let next = end + 1;
-        let input = from_place(buf, next, len, left, read);
+    if i.end < i.len {
+        let line = read_line(&buf[i.at..i.end], xs);
+        let input = from_place(buf, i.end + 1, i.len, i.left, i.read);
         return Heard {
             input,
             line,
-            from: at,
-            to: end,
+            from: i.at,
+            to: i.end,
         };
     }
-    if LONGEST < len {
-        let input = behind_long(stdin, buf, left, read);
+    if LONGEST < i.len {
+        let input = behind_long(stdin, buf, i.left, i.read);
         return Heard {
             input,
             line: bad(),
@@ -231,12 +199,11 @@ pub fn hear(stdin: Stdin, buf: &mut [u8], xs: &mut [i64], s: Input) -> Heard
             to: 0,
         };
     }
-    let line = read_line(&buf[at..end], xs);
-    let input = ended(len, read);
+    let line = read_line(&buf[i.at..i.end], xs);
     Heard {
-        input,
+        input: ended(i.len, i.read),
         line,
-        from: at,
-        to: end,
+        from: i.at,
+        to: i.end,
     }
 }

@@ -19,7 +19,7 @@ pub returns : goal.returns
 returns c = (
   refl,
   refl,
-  c.one_less.ensures,
+  c.saturating_sub.ensures,
   refl,
   stands_from _ _ _ _ _ _ c.requires.0 c.requires.1 c.requires.2 c.find-end.ensures.0
       c.find-end.ensures.1,
