@@ -20,20 +20,9 @@ use Rattle.std.specs.declared.option.Option.TheVariants.{None, Some}
 use Rattle.text_protocol.specs.declared.Performed.{Performed}
 use Rattle.text_protocol.specs.Calls.{call_asked, role_of}
 
--- no reason, and one
-abbrev pub no_reason : Option Why
-no_reason = None
-
-abbrev pub because : Why → Option Why
-because why = Some why
-
--- an answer, and why it is that
-abbrev pub explained : Answer → Option Why → Performed
-explained answer why = record { answer = answer; why = why }
-
 -- what stands for an answer where the desk was asked nothing
 abbrev pub unasked : Performed
-unasked = explained (saying verdict.Done) no_reason
+unasked = record { answer = saying verdict.Done; why = None }
 
 -- why: only an evaluation has reasons. They are those of the table before it
 unfoldable pub explanation : Role → (rows : List ℤ) → List Record → Option Why

@@ -5,7 +5,7 @@
 ghost use Rattle.std.specs.Prelude.{◌≡◌, true};
 ghost use Rattle.record_answers.specs.Effects.{is_known};
 ghost use Rattle.desk.specs.Guesses.{slot_at};
-ghost use Rattle.text_ask.specs.WithReasons.{no_reason, because, explained, unasked, id_asked};
+ghost use Rattle.text_ask.specs.WithReasons.{unasked, id_asked};
 ghost use Rattle.text_ask.specs.WithReasons.{DoneOf, AsksAt};
 
 use desk::reasons::why_asked;
@@ -42,32 +42,14 @@ fn perform(t: &mut [Record], at: usize, known: bool, c: AskedCall, rows: &[i64])
     }
 }
 
-// No reason: it is not asked why, or the call has none.
-fn no_reason() -> Option<Why>
-    ensures { result ≡ no_reason }
-{
-    None
-}
-
-// A reason.
-fn because(why: Why) -> Option<Why>
-    ensures { result ≡ because why }
-{
-    Some(why)
-}
-
-// An answer, and why it is that.
-fn with_why(answer: Answer, why: Option<Why>) -> Performed
-    ensures { result ≡ explained answer why }
-{
-    Performed { answer, why }
-}
-
 // To a line that is no call of the desk, nothing is answered here: nothing prints this.
 fn unasked() -> Performed
     ensures { result ≡ unasked }
 {
-    with_why(record_answers::saying(Verdict::Done), no_reason())
+    Performed {
+        answer: record_answers::saying(Verdict::Done),
+        why: None,
+    }
 }
 
 // What the desk says to what a line asks for. Only a call in the role of an evaluation has reasons, and they are asked
@@ -80,15 +62,12 @@ pub fn ask(t: &mut [Record], at: usize, known: bool, a: Ask, rows: &[i64], asked
     let Ask::Call(c) = a else {
         return unasked();
     };
-    let mut why = no_reason();
+    let mut why = None;
     if asked {
-        let role = c.role();
-        if let Role::Evaluation(id, day) = role {
-            let said = why_asked(t, id, day, rows);
-            let reason = because(said);
-            why = reason;
+        if let Role::Evaluation(id, day) = c.role() {
+            why = Some(why_asked(t, id, day, rows));
         }
     }
     let answer = perform(t, at, known, c, rows);
-    with_why(answer, why)
+    Performed { answer, why }
 }

@@ -3,6 +3,7 @@
 use Rattle.std.proofs.Common.{◌≡◌, refl, sym, ◌∙◌, ℕ, Bool, true, List}
 use Rattle.std.proofs.lemmas.Bool.{false≢true}
 use lib.IntN.{ℤ}
+use Rattle.std.specs.declared.option.Option.TheVariants.{None}
 use Rattle.paper.specs.declared.Record.{Record}
 use Rattle.paper.specs.declared.AskedDay.{AskedDay}
 use Rattle.text_protocol.specs.declared.AskedCall.{AskedCall}
@@ -12,7 +13,7 @@ use Rattle.text_protocol.specs.declared.Role.{Role}
 use Rattle.text_protocol.specs.declared.Role.TheVariants as role
 use Rattle.text_protocol.specs.declared.Performed.{Performed}
 use Rattle.text_protocol.specs.Calls.{role_of}
-use Rattle.text_ask.specs.WithReasons.{no_reason, explanation, AsksAt}
+use Rattle.text_ask.specs.WithReasons.{explanation, AsksAt}
 use Rattle.text_ask.proofs.ask.Goals.{then-asked+in-Evaluation, then-asked+in_default-role, else-asked}
 use Rattle.text_ask.proofs.ask.Goals as goal
 
@@ -28,7 +29,7 @@ no_call at asked (ask.Bond b) rows t r other = refl
 
 -- a call that is no evaluation has no reason
 no_evaluation : (x : Role) (rows : List ℤ) (t : List Record)
-    → ((id : ℕ) (d : AskedDay) → x ≡ role.Evaluation id d → ⊥) → no_reason ≡ explanation x rows t
+    → ((id : ℕ) (d : AskedDay) → x ≡ role.Evaluation id d → ⊥) → None ≡ explanation x rows t
 unfolding explanation
 no_evaluation (role.Admission g) rows t other = refl
 no_evaluation (role.Evaluation id d) rows t other = absurd (other id d refl)
@@ -47,11 +48,10 @@ returns c =
     λ told.
     elim c.if-asked.branch [
       | then-asked+in-Evaluation w ↦
-          rw (w.why-is, w.because-reason.ensures, w.why_asked-said.ensures, ← w.role-role.ensures, w.in-Evaluation.is) refl
+          rw (w.why-is, w.why_asked.ensures, ← w.role.ensures, w.in-Evaluation.is) refl
       | then-asked+in_default-role w ↦
-          w.why-is ∙ c.no_reason-why.ensures
-          ∙ no_evaluation (role_of c.in-Call.c) c.args.rows.now c.args.t.now
-          (λ id d e. w.in_default-role.not-Evaluation id d (w.role-role.ensures ∙ e))
+          w.why-is ∙ no_evaluation (role_of c.in-Call.c) c.args.rows.now c.args.t.now
+          (λ id d e. w.in_default-role.not-Evaluation id d (w.role.ensures ∙ e))
       | else-asked w ↦ absurd (false≢true (sym w.if-asked.false ∙ told))
     ] in
-    rw (c.in-Call.is, c.with_why.ensures) (record { promised = c.perform-answer.ensures; why = why })
+    rw c.in-Call.is (record { promised = c.perform-answer.ensures; why = why })
