@@ -23,18 +23,21 @@ use Rattle.paper.proofs.Logic.{not_true_and_false}
 use Rattle.paper.proofs.Roundings.{half_le}
 use Rattle.evaluation.specs.declared.Book.{Book}
 use Rattle.evaluation.specs.declared.PriceFigures.{PriceFigures}
-use Rattle.evaluation.specs.declared.Gathered.{Gathered}
-use Rattle.evaluation.specs.declared.Gathered.TheVariants as gathered
-use Rattle.evaluation.specs.declared.Evaluation.TheVariants.{Evaluated, Beyond}
+use Rattle.std.specs.declared.result.Result.{Result}
+use Rattle.std.specs.declared.result.Result.TheVariants.{Ok, Err}
+use Rattle.evaluation.specs.declared.Priced.{Priced}
+use Rattle.evaluation.specs.declared.RowsRefused.{RowsRefused}
+use Rattle.evaluation.specs.declared.RowsRefused.TheVariants.{Beyond}
 use Rattle.evaluation.specs.Evaluation.{price_figures, priced_of, evaluation_from, evaluation_made}
-use Rattle.evaluation.specs.Book.{book_of, close_in, figures_in, gathered_of, is_book}
+use Rattle.evaluation.specs.Book.{book_of, close_in, figures_in, gathered_of}
+use Rattle.std.specs.Prelude.{is_ok}
 use Rattle.evaluation.proofs.Books.{close_of_book}
 
 -- what is gathered where neither 6 nor 16 refuses
-abbrev fitted_of : List Row → Gathered
-fitted_of rows = pick (every row_fits rows) (gathered.Whole (book_of (map roubles_of rows))) gathered.Beyond
+abbrev fitted_of : List Row → Result Book RowsRefused
+fitted_of rows = pick (every row_fits rows) (Ok (book_of (map roubles_of rows))) (Err Beyond)
 
-pub gathered_fitted : (numbers : List ℤ) (r : Gathered) → r ≡ gathered_of numbers → valid_rows numbers ≡ true
+pub gathered_fitted : (numbers : List ℤ) (r : Result Book RowsRefused) → r ≡ gathered_of numbers → valid_rows numbers ≡ true
     → has_crossed_row (day_rows numbers) ≡ false
     → r ≡ fitted_of (day_rows numbers)
 unfolding gathered_of
@@ -65,48 +68,47 @@ module _ (g previous : ℕ) (used : External) (rows : List Row) where
       (close_of_book previous rs)
 
   -- 7 for a row
-  pub no_book_makes_beyond : (r : Gathered) → is_book r ≡ false → r ≡ fitted_of rows
-      → Beyond ≡ evaluation_made g previous used rows
+  pub no_book_makes_beyond : (r : Result Book RowsRefused) → is_ok r ≡ false → r ≡ fitted_of rows
+      → None ≡ evaluation_made g previous used rows
   unfolding evaluation_made evaluation_fits
   no_book_makes_beyond r n k = step (every row_fits rows) k
     where
-      step : (t : Bool) → r ≡ pick t (gathered.Whole (book_of (map roubles_of rows))) gathered.Beyond
-          → Beyond
-          ≡ pick (t && is_price (evaluation_of g previous used rows)) (Evaluated (priced_of g previous used rows)) Beyond
-      step true p = absurd (not_true_and_false (is_book r) (ap is_book p) n)
+      step : (t : Bool) → r ≡ pick t (Ok (book_of (map roubles_of rows))) (Err Beyond)
+          → ◌≡◌ {A = Option Priced} None (pick (t && is_price (evaluation_of g previous used rows)) (Some (priced_of g previous used rows)) None)
+      step true p = absurd (not_true_and_false (is_ok r) (ap is_ok p) n)
       step false p = refl
 
   -- the evaluation, or 7 for it
-  pub book_makes_evaluation : (b : Book) → gathered.Whole b ≡ fitted_of rows
+  pub book_makes_evaluation : (b : Book) → Ok b ≡ fitted_of rows
       → evaluation_from (to_grid g (chosen_in b) 1) (figures_in previous used b) ≡ evaluation_made g previous used rows
   unfolding evaluation_made evaluation_fits evaluation_from priced_of
   book_makes_evaluation b k = step (every row_fits rows) k
     where
-      step : (t : Bool) → gathered.Whole b ≡ pick t (gathered.Whole (book_of (map roubles_of rows))) gathered.Beyond
+      step : (t : Bool) → Ok b ≡ pick t (Ok (book_of (map roubles_of rows))) (Err Beyond)
           → evaluation_from (to_grid g (chosen_in b) 1) (figures_in previous used b)
-          ≡ pick (t && is_price (evaluation_of g previous used rows)) (Evaluated (priced_of g previous used rows)) Beyond
+          ≡ pick (t && is_price (evaluation_of g previous used rows)) (Some (priced_of g previous used rows)) None
       step true p = rw (book_gives_evaluation b (cc), figures_of_book b (cc))
       step false p = absurd (let z : ◌≡◌ {A = ℕ} 0 1 = cc in omega arith)
 
 -- the evaluation as the price's constructor has it
 pub made_price_is_evaluated : (units : ℕ) (p : Price) (f : PriceFigures) → Some p ≡ price_made units
-    → Evaluated (record { price = p; figures = f }) ≡ evaluation_from units f
+    → Some (record { price = p; figures = f }) ≡ evaluation_from units f
 unfolding price_made evaluation_from
 made_price_is_evaluated units p f k = step (is_price units) k
   where
     step : (t : Bool) → Some p ≡ pick t (Some (record { units = units })) None
-        → Evaluated (record { price = p; figures = f })
-        ≡ pick t (Evaluated (record { price = record { units = units }; figures = f })) Beyond
+        → ◌≡◌ {A = Option Priced} (Some (record { price = p; figures = f }))
+        (pick t (Some (record { price = record { units = units }; figures = f })) None)
     step true q = let same : p ≡ record { units = units } = cc in rw same
     step false q = absurd (let z : ◌≡◌ {A = ℕ} 0 1 = cc in omega arith)
 
 pub price_out_of_range_is_beyond : (units : ℕ) (f : PriceFigures) → None ≡ price_made units
-    → Beyond ≡ evaluation_from units f
+    → None ≡ evaluation_from units f
 unfolding price_made evaluation_from
 price_out_of_range_is_beyond units f k = step (is_price units) k
   where
     step : (t : Bool) → ◌≡◌ {A = Option Price} None (pick t (Some (record { units = units })) None)
-        → Beyond ≡ pick t (Evaluated (record { price = record { units = units }; figures = f })) Beyond
+        → ◌≡◌ {A = Option Priced} None (pick t (Some (record { price = record { units = units }; figures = f })) None)
     step true q = absurd (let z : ◌≡◌ {A = ℕ} 0 1 = cc in omega arith)
     step false q = refl
 

@@ -18,9 +18,12 @@ use Rattle.exact.specs.EveryLaws.{every_cons, every_in, every_out, every_nil}
 use Rattle.exact.specs.LentLaws.{Place, place_first, place_next, left_here, left_end}
 use Rattle.rows.specs.RowLaws.{rest_of, rest_first, valid_row_in_range}
 use Rattle.evaluation.specs.declared.Book.{Book}
-use Rattle.evaluation.specs.declared.Gathered.{Gathered}
-use Rattle.evaluation.specs.declared.Gathered.TheVariants.{OutOfRange, Crossed, Beyond, Whole}
-use Rattle.evaluation.specs.Book.{added, book_of, is_taken, gathered_of, is_book, Gathers}
+use Rattle.std.specs.declared.result.Result.{Result}
+use Rattle.std.specs.declared.result.Result.TheVariants.{Ok, Err}
+use Rattle.evaluation.specs.declared.RowsRefused.{RowsRefused}
+use Rattle.evaluation.specs.declared.RowsRefused.TheVariants.{OutOfRange, Crossed, Beyond}
+use Rattle.evaluation.specs.Book.{added, book_of, is_taken, gathered_of, Gathers}
+use Rattle.std.specs.Prelude.{is_ok}
 use Rattle.evaluation.proofs.Prices.{roubles_are_fitting}
 use Rattle.evaluation.proofs.Books.{joined, empty, joined_first, joined_next, joined_none, Filled, filled_first}
 use Rattle.evaluation.proofs.Books.{filled_next}
@@ -64,26 +67,26 @@ taken_splits (row ∷ rows) = step (is_crossed_row row) (row_fits row) _ _ _ (ta
     step false false true fs rest e = refl
     step false false false fs rest e = refl
 
-pub gathered_out : (numbers : List ℤ) → valid_rows numbers ≡ false → OutOfRange ≡ gathered_of numbers
+pub gathered_out : (numbers : List ℤ) → valid_rows numbers ≡ false → Err OutOfRange ≡ gathered_of numbers
 unfolding gathered_of
 gathered_out numbers v = rw v
 
 pub gathered_crossed : (numbers : List ℤ) → valid_rows numbers ≡ true → has_crossed_row (day_rows numbers) ≡ true
-    → Crossed ≡ gathered_of numbers
+    → Err Crossed ≡ gathered_of numbers
 unfolding gathered_of
 gathered_crossed numbers v c = rw (v, c)
 
 pub gathered_beyond : (numbers : List ℤ) → valid_rows numbers ≡ true → has_crossed_row (day_rows numbers) ≡ false
-    → every is_taken (day_rows numbers) ≡ false → Beyond ≡ gathered_of numbers
+    → every is_taken (day_rows numbers) ≡ false → Err Beyond ≡ gathered_of numbers
 unfolding gathered_of
 gathered_beyond numbers v c t =
     let no : every row_fits (day_rows numbers) ≡ false = rw c at (sym (taken_splits (day_rows numbers)) ∙ t) in
     rw (v, c, no)
 
 -- what is no book has no bounds to keep
-pub no_book_gathers : (numbers : List ℤ) (r : Gathered) → is_book r ≡ false → r ≡ gathered_of numbers → Gathers numbers r
+pub no_book_gathers : (numbers : List ℤ) (r : Result Book RowsRefused) → is_ok r ≡ false → r ≡ gathered_of numbers → Gathers numbers r
 no_book_gathers numbers r n e =
-    record { is = e; bound = record { bounded = λ b q. absurd (not_true_and_false (is_book r) (ap is_book q) n) } }
+    record { is = e; bound = record { bounded = λ b q. absurd (not_true_and_false (is_ok r) (ap is_ok q) n) } }
 
 -- rows that are not whole are out of range
 pub torn_rows_not_valid : (numbers : List ℤ) → whole_rows numbers ≡ false → valid_rows numbers ≡ false
@@ -142,7 +145,7 @@ module _ (numbers : List ℤ) (at : ℕ) (b : Book) (room : at + row_numbers ≤
 -- at the end the book is that of all rows
 pub walked_rows_gather : (numbers : List ℤ) (at : ℕ) (b : Book) → whole_rows numbers ≡ true → length numbers ≤ at
     → Gathering numbers at b
-    → Gathers numbers (Whole b)
+    → Gathers numbers (Ok b)
 unfolding gathered_of valid_rows rows_left
 walked_rows_gather numbers at b whole h g =
     let none = left_end row_at row_numbers numbers at (omega arith) h in
@@ -155,6 +158,6 @@ walked_rows_gather numbers at b whole h g =
     let same : b ≡ book_of (map roubles_of (day_rows numbers)) = sym (joined_none b)
     ∙ sym (ap (λ (ws : List LentRow). joined b (map roubles_of (map row_of ws))) none) ∙ g.book in
     record {
-      is = rw (whole, valid, uncrossed, fit) (ap Whole same);
+      is = rw (whole, valid, uncrossed, fit) (ap Ok same);
       bound = record { bounded = λ c q. let e : b ≡ c = cc in rw e at g.filled.bounded };
     }

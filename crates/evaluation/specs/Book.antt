@@ -1,5 +1,5 @@
 -- The book that the code keeps of the rows, row by row, and what of it the evaluation asks for.
-use Rattle.std.specs.Prelude.{◌≡◌, Bool, true, false, not, ◌&&◌, List, map, ℕ, ◌+◌, ◌*◌, ◌≤◌, max, eqb, ℤ}
+use Rattle.std.specs.Prelude.{◌≡◌, Bool, true, false, not, ◌&&◌, List, map, ℕ, ◌+◌, ◌*◌, ◌≤◌, max, eqb, ℤ, Option, Result, Ok, Err}
 use Rattle.paper.specs.declared.External.{External}
 use Rattle.paper.specs.declared.Row.{Row}
 use Rattle.paper.specs.declared.Roubles.{Roubles}
@@ -11,9 +11,9 @@ use Rattle.paper_desk.specs.Evaluation.{weights, worth, best_bid, lesser_ask, be
 use Rattle.paper_desk.specs.Evaluation.{has_crossed_row, row_fits}
 use Rattle.evaluation.specs.declared.Book.{Book}
 use Rattle.evaluation.specs.declared.PriceFigures.{PriceFigures}
-use Rattle.evaluation.specs.declared.Gathered.{Gathered}
-use Rattle.evaluation.specs.declared.Gathered.TheVariants.{OutOfRange, Crossed, Beyond, Whole}
-use Rattle.evaluation.specs.declared.Evaluation.{Evaluation}
+use Rattle.evaluation.specs.declared.Priced.{Priced}
+use Rattle.evaluation.specs.declared.RowsRefused.{RowsRefused}
+use Rattle.evaluation.specs.declared.RowsRefused.TheVariants.{OutOfRange, Crossed, Beyond}
 use Rattle.evaluation.specs.Evaluation.{evaluation_made}
 
 -- the book of all rows
@@ -56,32 +56,26 @@ abbrev pub is_taken : Row → Bool
 is_taken row = not (is_crossed_row row) && row_fits row
 
 -- what the rows come to: the first of 6, 16 and 7 that refuses them, else their book
-unfoldable pub gathered_of : (numbers : List ℤ) → Gathered
+unfoldable pub gathered_of : (numbers : List ℤ) → Result Book RowsRefused
 gathered_of numbers =
     let rows : List Row = day_rows numbers in
     pick (valid_rows numbers)
-    (pick (has_crossed_row rows) Crossed (pick (every row_fits rows) (Whole (book_of (map roubles_of rows))) Beyond))
-    OutOfRange
+    (pick (has_crossed_row rows) (Err Crossed)
+    (pick (every row_fits rows) (Ok (book_of (map roubles_of rows))) (Err Beyond)))
+    (Err OutOfRange)
 
 -- whether 6 does not refuse them, and whether 16 does
-abbrev pub is_in_range : Gathered → Bool
-is_in_range OutOfRange = false
-is_in_range Crossed = true
-is_in_range Beyond = true
-is_in_range (Whole b) = true
+abbrev pub is_in_range : Result Book RowsRefused → Bool
+is_in_range (Err OutOfRange) = false
+is_in_range (Err Crossed) = true
+is_in_range (Err Beyond) = true
+is_in_range (Ok b) = true
 
-abbrev pub is_crossed : Gathered → Bool
-is_crossed OutOfRange = false
-is_crossed Crossed = true
-is_crossed Beyond = false
-is_crossed (Whole b) = false
-
--- whether none does
-abbrev pub is_book : Gathered → Bool
-is_book OutOfRange = false
-is_book Crossed = false
-is_book Beyond = false
-is_book (Whole b) = true
+abbrev pub is_crossed : Result Book RowsRefused → Bool
+is_crossed (Err OutOfRange) = false
+is_crossed (Err Crossed) = true
+is_crossed (Err Beyond) = false
+is_crossed (Ok b) = false
 
 -- what a book's figures keep to
 pub record Bounded (b : Book) : Type 0 where
@@ -89,15 +83,15 @@ pub record Bounded (b : Book) : Type 0 where
   pub bid : b.bid ≤ price_most
   pub ask : b.ask ≤ price_most
 
-pub record Bound (r : Gathered) : Type 0 where
-  pub bounded : (b : Book) → r ≡ Whole b → Bounded b
+pub record Bound (r : Result Book RowsRefused) : Type 0 where
+  pub bounded : (b : Book) → r ≡ Ok b → Bounded b
 
-pub record Gathers (numbers : List ℤ) (r : Gathered) : Type 0 where
+pub record Gathers (numbers : List ℤ) (r : Result Book RowsRefused) : Type 0 where
   pub is : r ≡ gathered_of numbers
   pub bound : Bound r
 
 -- e is the evaluation of any rows that were gathered so and that neither 6 nor 16 refuses
-abbrev pub EvaluatesTo : (g previous : ℕ) → (used : External) → Gathered → Evaluation → Type 0
+abbrev pub EvaluatesTo : (g previous : ℕ) → (used : External) → Result Book RowsRefused → Option Priced → Type 0
 EvaluatesTo g previous used r e =
     (numbers : List ℤ) → r ≡ gathered_of numbers → valid_rows numbers ≡ true → has_crossed_row (day_rows numbers) ≡ false
     → e ≡ evaluation_made g previous used (day_rows numbers)

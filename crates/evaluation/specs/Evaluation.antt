@@ -1,5 +1,5 @@
 -- What an evaluation (6.1) answers: the paper's figure, or that 7 refuses it.
-use Rattle.std.specs.Prelude.{Bool, ◌&&◌, List, map, ℕ, ◌+◌, ◌-◌, ◌*◌, ◌≤◌, eqb}
+use Rattle.std.specs.Prelude.{Bool, ◌&&◌, List, map, ℕ, ◌+◌, ◌-◌, ◌*◌, ◌≤◌, eqb, Option, Some, None}
 use Rattle.paper.specs.declared.External.{External}
 use Rattle.paper.specs.declared.Row.{Row}
 use Rattle.paper.specs.declared.Roubles.{Roubles}
@@ -10,8 +10,6 @@ use Rattle.paper_desk.specs.Evaluation.{roubles_of, weights, close_of, bid_of, a
 use Rattle.exact.specs.SignedLaws.{growth_most}
 use Rattle.evaluation.specs.declared.PriceFigures.{PriceFigures}
 use Rattle.evaluation.specs.declared.Priced.{Priced}
-use Rattle.evaluation.specs.declared.Evaluation.{Evaluation}
-use Rattle.evaluation.specs.declared.Evaluation.TheVariants.{Evaluated, Beyond}
 
 -- the figures that a price is chosen from: BID and ASK with the outside prices that count (W-211)
 unfoldable pub price_figures : (previous : ℕ) → (used : External) → List Roubles → PriceFigures
@@ -28,14 +26,14 @@ priced_of g previous used rows =
 
 -- 7: "a rounded row price, or the evaluation, is 0 or above 10^10; a rounded row volume is above 10^8"; else the
 -- evaluation
-unfoldable pub evaluation_made : (g previous : ℕ) → (used : External) → List Row → Evaluation
+unfoldable pub evaluation_made : (g previous : ℕ) → (used : External) → List Row → Option Priced
 evaluation_made g previous used rows =
-    pick (evaluation_fits g previous used rows) (Evaluated (priced_of g previous used rows)) Beyond
+    pick (evaluation_fits g previous used rows) (Some (priced_of g previous used rows)) None
 
 -- the same of the evaluation alone, where every row's figures are in range
-unfoldable pub evaluation_from : (units : ℕ) → PriceFigures → Evaluation
+unfoldable pub evaluation_from : (units : ℕ) → PriceFigures → Option Priced
 evaluation_from units figures =
-    pick (is_price units) (Evaluated (record { price = record { units = units }; figures = figures })) Beyond
+    pick (is_price units) (Some (record { price = record { units = units }; figures = figures })) None
 
 -- the ranges of a price times its central rate, and of a year's days with the repo rate of T of them
 pub record Discounts (x days : ℕ) : Type 0 where

@@ -3,7 +3,7 @@
 // missing there, and a figure may be beyond a price's range.
 #![tactic(auto)]
 
-ghost use Rattle.std.specs.Prelude.{◌≡◌, true, false, ◌*◌, ◌≤◌};
+ghost use Rattle.std.specs.Prelude.{◌≡◌, true, false, ◌*◌, ◌≤◌, Err};
 ghost use Rattle.paper.specs.Lists.{every};
 ghost use Rattle.paper.specs.Numbers.{coarsest_grid, rouble, year_in_day_bp, price_most};
 ghost use Rattle.paper.specs.Roundings.{half_up, to_grid, grown};
@@ -25,8 +25,9 @@ const NARROW_MOST: u64 = u64::MAX / YEAR_DAYS;
 // price of 10^10 times 365 times it, with half of a year's days, fits 64 bits.
 const ONCE_CENTRAL_MOST: u64 = 5_000_000;
 
-// What the rows come to: their weights, their closes times their weights, the greatest bid and the least ask.
-#[derive(Clone, Copy)]
+// What the rows come to: their weights, their closes times their weights, the greatest bid and the least ask. Of no rows
+// it is the default.
+#[derive(Clone, Copy, Default)]
 pub struct Book {
     weight: u64,
     worth: u64,
@@ -34,13 +35,12 @@ pub struct Book {
     ask: u64,
 }
 
-// What one walk over the rows gives (W-214): the first of 6, 16 and 7 that refuses them, else their book.
-#[derive(Clone, Copy)]
-pub enum Gathered {
+// The first of 6, 16 and 7 that refuses the rows.
+#[derive(Clone, Copy, PartialEq, Eq)]
+pub enum RowsRefused {
     OutOfRange,
     Crossed,
     Beyond,
-    Whole(Book),
 }
 
 // The figures that a price is chosen from: the weights of the rows together, the close, and BID and ASK with the
@@ -58,13 +58,6 @@ pub struct PriceFigures {
 pub struct Priced {
     pub price: Price,
     pub figures: PriceFigures,
-}
-
-// The day's evaluation, or that a figure is beyond its range: refusal 7.
-#[derive(Clone, Copy)]
-pub enum Evaluation {
-    Evaluated(Priced),
-    Beyond,
 }
 
 // x·3,650,000/(10^4·days), rounded once: a price times its central rate, discounted. It is x·365/days, and nearly
@@ -242,70 +235,55 @@ fn row_taken(row: Row, r: Roubles) -> bool
 
 // What refuses rows of which one is not taken. It is rare, and rows behind that one may still be out of range or
 // crossed, so all of them are judged, in the order of 6, 16 and 7.
-fn refused(rows: &[i64]) -> Gathered
+fn refused(rows: &[i64]) -> RowsRefused
     requires { every is_taken (day_rows rows.now) ≡ false }
-    ensures { Gathers rows.now result }
+    ensures { Gathers rows.now (Err result) }
 {
     if !rows::rows_valid(rows) {
-        return Gathered::OutOfRange;
+        return RowsRefused::OutOfRange;
     }
     if rows::has_crossed_row(rows) {
-        return Gathered::Crossed;
+        return RowsRefused::Crossed;
     }
-    Gathered::Beyond
+    RowsRefused::Beyond
 }
 
-// The rows judged, converted and weighed in one walk.
-pub fn gather(rows: &[i64]) -> Gathered
+// The rows judged, converted and weighed in one walk (W-214).
+pub fn gather(rows: &[i64]) -> Result<Book, RowsRefused>
     ensures { Gathers rows.now result }
 {
     if !rows::whole_rows(rows) {
-        return Gathered::OutOfRange;
+        return Err(RowsRefused::OutOfRange);
     }
-    let mut book = Book {
-        weight: 0,
-        worth: 0,
-        bid: 0,
-        ask: 0,
-    };
+    let mut book = Book::default();
     let mut at = 0;
     while at < rows.len() {
         if !rows::row_valid(rows, at) {
-            return Gathered::OutOfRange;
+            return Err(RowsRefused::OutOfRange);
         }
         let row = rows::row_at(rows, at);
         let r = in_roubles(row);
         if !row_taken(row, r) {
-            return refused(rows);
+            return Err(refused(rows));
         }
         book = add(book, r);
         at += Row::NUMBERS;
     }
-    Gathered::Whole(book)
+    Ok(book)
 }
 
 // Whether 6 does not refuse the rows.
-pub fn in_range(gathered: Gathered) -> bool
+pub fn in_range(gathered: Result<Book, RowsRefused>) -> bool
     ensures { result ≡ is_in_range gathered }
 {
-    match gathered {
-        Gathered::OutOfRange => false,
-        Gathered::Crossed => true,
-        Gathered::Beyond => true,
-        Gathered::Whole(_) => true,
-    }
+    !matches!(gathered, Err(RowsRefused::OutOfRange))
 }
 
 // Whether 16 refuses rows that 6 does not.
-pub fn is_crossed(gathered: Gathered) -> bool
+pub fn is_crossed(gathered: Result<Book, RowsRefused>) -> bool
     ensures { result ≡ is_crossed gathered }
 {
-    match gathered {
-        Gathered::OutOfRange => false,
-        Gathered::Crossed => true,
-        Gathered::Beyond => false,
-        Gathered::Whole(_) => false,
-    }
+    matches!(gathered, Err(RowsRefused::Crossed))
 }
 
 // The weighted close, place (c), or with no weight the previous evaluation.
@@ -341,41 +319,42 @@ pub fn between(bid: u64, close: u64, ask: u64) -> u64
 }
 
 // The evaluation on the grid, place (d), unless it is beyond its range: p is the price that the figures give.
-fn on_grid(g: u64, p: u64, figures: PriceFigures) -> Evaluation
+fn on_grid(g: u64, p: u64, figures: PriceFigures) -> Option<Priced>
     requires { (1 ≤ g) × (g ≤ coarsest_grid) × (p ≤ price_most) }
     ensures { result ≡ evaluation_from (to_grid g p 1) figures }
 {
     let made = Price::new(exact::to_grid(g, p, 1));
     match made {
-        Some(price) => Evaluation::Evaluated(Priced { price, figures }),
-        None => Evaluation::Beyond,
+        Some(price) => Some(Priced { price, figures }),
+        None => None,
     }
 }
 
-// The evaluation of rows as they were gathered, where neither 6 nor 16 refuses them. `used` is the outside pair that
-// counts (W-211): "BID is the greater of the book's and the outside one, ASK the lesser (6.1); a missing side leaves
-// the book's."
-pub fn evaluate(gathered: Gathered, previous: Price, used: External, g: u64) -> Evaluation
+// The evaluation of rows as they were gathered, where neither 6 nor 16 refuses them; none where 7 does. `used` is the
+// outside pair that counts (W-211): "BID is the greater of the book's and the outside one, ASK the lesser (6.1); a
+// missing side leaves the book's."
+pub fn evaluate(
+    gathered: Result<Book, RowsRefused>,
+    previous: Price,
+    used: External,
+    g: u64,
+) -> Option<Priced>
     requires bound { Bound gathered }
     requires units_le_price_most { (previous.units ≤ price_most) × (1 ≤ g) × (g ≤ coarsest_grid) }
     requires bid_le_price_most { (used.bid ≤ price_most) × (used.ask ≤ price_most) }
     ensures { EvaluatesTo g previous.units used gathered result }
 {
-    match gathered {
-        Gathered::Whole(book) => {
-            let close = close_of(book, previous);
-            let bid = book.bid.max(used.bid);
-            let ask = lesser_ask(book.ask, used.ask);
-            let figures = PriceFigures {
-                weight: book.weight,
-                close,
-                bid,
-                ask,
-            };
-            on_grid(g, between(bid, close, ask), figures)
-        }
-        Gathered::OutOfRange => Evaluation::Beyond,
-        Gathered::Crossed => Evaluation::Beyond,
-        Gathered::Beyond => Evaluation::Beyond,
-    }
+    let Ok(book) = gathered else {
+        return None;
+    };
+    let close = close_of(book, previous);
+    let bid = book.bid.max(used.bid);
+    let ask = lesser_ask(book.ask, used.ask);
+    let figures = PriceFigures {
+        weight: book.weight,
+        close,
+        bid,
+        ask,
+    };
+    on_grid(g, between(bid, close, ask), figures)
 }

@@ -17,9 +17,12 @@ use Rattle.paper_desk.specs.Desk.{used_by}
 use Rattle.paper.proofs.Logic.{and_left, and_right}
 use Rattle.inputs.proofs.Tests.{day_in_parts}
 use Rattle.record_soundness.proofs.Facts.{sound_facts}
-use Rattle.evaluation.specs.declared.Gathered.{Gathered}
+use Rattle.std.specs.declared.option.Option.{Option}
+use Rattle.std.specs.declared.option.Option.TheVariants.{None, Some}
+use Rattle.std.specs.declared.result.Result.{Result}
+use Rattle.evaluation.specs.declared.Book.{Book}
+use Rattle.evaluation.specs.declared.RowsRefused.{RowsRefused}
 use Rattle.evaluation.specs.declared.Priced.{Priced}
-use Rattle.evaluation.specs.declared.Evaluation.TheVariants.{Evaluated, Beyond}
 use Rattle.evaluation.specs.Evaluation.{priced_of, evaluation_made}
 use Rattle.evaluation.specs.Book.{gathered_of, is_in_range, is_crossed}
 use Rattle.evaluation.specs.EvaluationLaws.{in_range_is, crossed_is}
@@ -36,11 +39,11 @@ day_valid_parts d rows v =
     (and_left (valid_day_numbers d) (valid_rows rows) both, and_right (valid_day_numbers d) (valid_rows rows) both)
 
 -- what was gathered says what 6 and 16 ask of the rows (W-214)
-pub day_gathered : (d : Day) (rows : List ℤ) (r : Gathered) → r ≡ gathered_of rows
+pub day_gathered : (d : Day) (rows : List ℤ) (r : Result Book RowsRefused) → r ≡ gathered_of rows
     → (valid_day_numbers d && is_in_range r) ≡ valid_day d rows
 day_gathered d rows r e = rw (e, in_range_is rows) (sym (day_in_parts d rows))
 
-pub crossed_gathered : (rows : List ℤ) (r : Gathered) → r ≡ gathered_of rows → valid_rows rows ≡ true
+pub crossed_gathered : (rows : List ℤ) (r : Result Book RowsRefused) → r ≡ gathered_of rows → valid_rows rows ≡ true
     → is_crossed r ≡ has_crossed_row (day_rows rows)
 crossed_gathered rows r e v = rw e (crossed_is rows v)
 
@@ -55,12 +58,12 @@ used_prices_within_most r v = go r.statics.useexternal
     go false = (omega arith, omega arith)
 
 pub beyond_does_not_fit : (g previous : ℕ) (used : External) (rows : List Row) → evaluation_made g previous used rows
-    ≡ Beyond
+    ≡ None
     → evaluation_fits g previous used rows ≡ false
 unfolding evaluation_made
 beyond_does_not_fit g previous used rows e = go (evaluation_fits g previous used rows) e
   where
-    go : (b : Bool) → pick b (Evaluated (priced_of g previous used rows)) Beyond ≡ Beyond → b ≡ false
+    go : (b : Bool) → ◌≡◌ {A = Option Priced} (pick b (Some (priced_of g previous used rows)) None) None → b ≡ false
     go true q = let z : ◌≡◌ {A = ℕ} 0 1 = cc in absurd (omega arith)
     go false q = refl
 
@@ -71,12 +74,12 @@ pub record Fitting (g previous : ℕ) (used : External) (rows : List Row) (e : P
   pub price : is_price e.price.units ≡ true
 
 pub evaluated_is_fitting : (g previous : ℕ) (used : External) (rows : List Row) (e : Priced)
-    → evaluation_made g previous used rows ≡ Evaluated e → Fitting g previous used rows e
+    → evaluation_made g previous used rows ≡ Some e → Fitting g previous used rows e
 unfolding evaluation_made evaluation_fits priced_of
 evaluated_is_fitting g previous used rows e m = go (evaluation_fits g previous used rows) refl m
   where
     go : (b : Bool) → evaluation_fits g previous used rows ≡ b
-        → pick b (Evaluated (priced_of g previous used rows)) Beyond ≡ Evaluated e → Fitting g previous used rows e
+        → pick b (Some (priced_of g previous used rows)) None ≡ Some e → Fitting g previous used rows e
     go true f q =
         let same : priced_of g previous used rows ≡ e = cc in
         record {

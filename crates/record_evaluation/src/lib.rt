@@ -11,13 +11,13 @@ ghost use Rattle.evaluation.specs.Book.{is_in_range};
 ghost use Rattle.record_answers.specs.Effects.{is_known, evaluate_effect};
 ghost use Rattle.record_evaluation.specs.Workings.{unmade_by, worked_of, Prices};
 
-use evaluation::{Evaluation, Gathered, PriceFigures, Priced};
+use evaluation::{Book, PriceFigures, Priced, RowsRefused};
 use paper::{Day, External, Limits, Price, Rate, Record, Tentative, Verdict};
 use record_answers::{Effect, Slot};
 use record_writing::figures::Made;
 
 // 6 of a day: its numbers, and its rows as they were gathered.
-fn valid_day(d: Day, gathered: Gathered) -> bool
+fn valid_day(d: Day, gathered: Result<Book, RowsRefused>) -> bool
     ensures { result ≡ (valid_day_numbers d && is_in_range gathered) }
 {
     inputs::valid_day_numbers(d) & evaluation::in_range(gathered)
@@ -136,10 +136,10 @@ fn worked_behind(s: Slot, d: Day, rows: &[i64]) -> Working
     let previous = r.p1;
     let used = used_by(r);
     let evaluation = evaluation::evaluate(gathered, previous, used, g);
-    match evaluation {
-        Evaluation::Beyond => unmade(Verdict::PriceOutOfRange),
-        Evaluation::Evaluated(e) => worked_at(s, d, e),
-    }
+    let Some(e) = evaluation else {
+        return unmade(Verdict::PriceOutOfRange);
+    };
+    worked_at(s, d, e)
 }
 
 // The same with 1, which comes first.

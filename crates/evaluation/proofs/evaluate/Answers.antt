@@ -12,7 +12,7 @@ use Rattle.evaluation.proofs.evaluate.Goals as goal
 pub on_grid-requires : goal.on_grid-requires
 on_grid-requires c =
     let s = c.requires in
-    let bounds = s.bound.bounded c.in-Whole.book c.in-Whole.is in
+    let bounds = s.bound.bounded c.in-Ok.book c.in-Ok.is in
     let close : c.close_of-close.result ≤ price_most =
     rw c.close_of-close.ensures (close_le _ _ _ s.units_le_price_most.0 bounds.mean) in
     let bid : c.max-bid.result ≤ price_most =
@@ -21,8 +21,8 @@ on_grid-requires c =
     rw c.lesser_ask-ask.ensures (lesser_le _ _ _ bounds.ask s.bid_le_price_most.1) in
     (s.units_le_price_most.1, s.units_le_price_most.2, rw c.between.ensures (between_le _ _ _ _ bid close ask))
 
-pub returns-in-Whole : goal.returns-in-Whole
-returns-in-Whole c = λ numbers e v x.
+pub returns : goal.returns
+returns c = λ numbers e v x.
     rw (
       c.on_grid.ensures,
       c.between.ensures,
@@ -30,17 +30,9 @@ returns-in-Whole c = λ numbers e v x.
       c.max-bid.ensures,
       c.close_of-close.ensures,
     )
-    (book_makes_evaluation _ _ _ _ c.in-Whole.book
-    (sym c.in-Whole.is ∙ gathered_fitted numbers _ e v x))
+    (book_makes_evaluation _ _ _ _ c.in-Ok.book
+    (sym c.in-Ok.is ∙ gathered_fitted numbers _ e v x))
 
-pub returns-in-OutOfRange : goal.returns-in-OutOfRange
-returns-in-OutOfRange c = λ numbers e v x.
-    no_book_makes_beyond _ _ _ _ _ refl (sym c.in-OutOfRange.is ∙ gathered_fitted numbers _ e v x)
-
-pub returns-in-Crossed : goal.returns-in-Crossed
-returns-in-Crossed c = λ numbers e v x.
-    no_book_makes_beyond _ _ _ _ _ refl (sym c.in-Crossed.is ∙ gathered_fitted numbers _ e v x)
-
-pub returns-in-Beyond : goal.returns-in-Beyond
-returns-in-Beyond c = λ numbers e v x.
-    no_book_makes_beyond _ _ _ _ _ refl (sym c.in-Beyond.is ∙ gathered_fitted numbers _ e v x)
+pub returns-in_default : goal.returns-in_default
+returns-in_default c = λ numbers e v x.
+    no_book_makes_beyond _ _ _ _ _ refl (sym c.in_default.is ∙ gathered_fitted numbers _ e v x)

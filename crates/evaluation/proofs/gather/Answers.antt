@@ -2,6 +2,7 @@ use mathlib.Core.Path.{◌≡◌, refl, sym, ◌∙◌}
 use mathlib.Core.Bool.{true, not}
 use Prim.Native.Nat.{◌+◌, ◌≤◌}
 use native.Mathlib.Omega.{arith}
+use borrow.Author.Rules.{rules}
 use borrow.Author.Tests.{not-true, not-false}
 use lib.ListN.{length}
 use Rattle.paper.specs.Numbers.{row_numbers}
@@ -12,7 +13,7 @@ use Rattle.exact.specs.LentLaws.{place_room}
 use Rattle.rows.specs.RowLaws.{whole_in_sevens, whole_within_most, InRange, valid_row_in_range}
 use Rattle.evaluation.specs.Book.{is_taken}
 use Rattle.evaluation.proofs.Prices.{roubles_are_fitting}
-use Rattle.evaluation.proofs.Books.{filled_room}
+use Rattle.evaluation.proofs.Books.{empty, filled_room}
 use Rattle.evaluation.proofs.Gathering.{no_book_gathers, gathered_out, torn_rows_not_valid}
 use Rattle.evaluation.proofs.Gathering.{gathering_first, row_out_of_range_not_valid, row_refused_not_all_taken}
 use Rattle.evaluation.proofs.Gathering.{gathering_next, walked_rows_gather}
@@ -24,13 +25,13 @@ whole : (c : Else-not-whole_rows) → whole_rows c.before.before.args.rows.now �
 whole c = sym c.before.whole_rows.ensures ∙ not-false _ (ap not c.if-not-whole_rows.false)
 
 room : (c : In-loop-at)
-    → c.before.loop-at.at + row_numbers ≤ length c.before.before.before.before.args.rows.now
-room c = place_room _ _ _ (whole_in_sevens _ (whole c.before.before)) c.before.loop-at.invariant.place
+    → c.before.loop-at.at + row_numbers ≤ length c.before.before.before.before.before.args.rows.now
+room c = place_room _ _ _ (whole_in_sevens _ (whole c.before.before.before)) c.before.loop-at.invariant.place
     c.loop-at-test.true
 
 valid : (c : Else-not-row_valid)
     → let l = c.before.before in
-    valid_row (row_at l.before.before.before.before.args.rows.now l.before.loop-at.at) ≡ true
+    valid_row (row_at l.before.before.before.before.before.args.rows.now l.before.loop-at.at) ≡ true
 valid c = sym c.before.row_valid.ensures ∙ not-false _ (ap not c.if-not-row_valid.false)
 
 -- the row at hand is in range
@@ -46,7 +47,9 @@ returns-then-not-whole_rows c =
     (sym c.whole_rows.ensures ∙ not-true _ (ap not c.if-not-whole_rows.true))))
 
 pub loop-at-init : goal.loop-at-init
-loop-at-init c = gathering_first _
+loop-at-init c =
+    let none : c.default-book.result ≡ empty = search rules in
+    rw none (gathering_first _)
 
 pub row_valid-requires : goal.row_valid-requires
 row_valid-requires c = room (goal.at.row_valid-requires c).In-loop-at

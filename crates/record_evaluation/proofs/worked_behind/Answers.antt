@@ -10,7 +10,7 @@ use Rattle.paper.specs.Ranges.{grid_of, last_day, valid_day}
 use Rattle.paper_desk.specs.Evaluation.{day_rows, has_crossed_row}
 use Rattle.paper_desk.specs.Desk.{used_by}
 use Rattle.evaluation.specs.declared.Priced.{Priced}
-use Rattle.evaluation.specs.declared.Evaluation.TheVariants.{Evaluated}
+use Rattle.std.specs.declared.option.Option.TheVariants.{Some}
 use Rattle.evaluation.specs.Evaluation.{evaluation_made}
 use Rattle.record_answers.specs.Effects.{is_known}
 use Rattle.record_evaluation.specs.Workings.{Begun}
@@ -91,7 +91,7 @@ evaluation c =
     (c.evaluate-evaluation.ensures _ e.before.before.before.before.gather-gathered.ensures.is (day_valid_parts _ _ b.valid).1
     b.uncrossed))
 
-price : (c : After-evaluate-evaluation) (e : Priced) → c.evaluate-evaluation.result ≡ Evaluated e
+price : (c : After-evaluate-evaluation) (e : Priced) → c.evaluate-evaluation.result ≡ Some e
     → let a = (start-begun (begun-before (later c))).args in
     let r = a.s.rec in
     Fitting (grid_of r.statics.lot) r.p1.units (used_by r) (day_rows a.rows.now) e
@@ -112,11 +112,11 @@ returns-then-d-last_day c =
     let test = le-leb _ _ (rw c.last_day.ensures at c.if-d-last_day.true) in
     c.unmade-then-d-last_day.ensures ∙ day_not_after _ _ _ (begun (goal.at.returns-then-d-last_day c).Else-is_crossed) test
 
-pub returns-in-Beyond : goal.returns-in-Beyond
-returns-in-Beyond c =
-    let e = later (goal.at.returns-in-Beyond c).After-evaluate-evaluation in
-    let test = beyond_does_not_fit _ _ _ _ (evaluation (goal.at.returns-in-Beyond c).After-evaluate-evaluation ∙ c.in-Beyond.is) in
-    c.unmade-in-Beyond.ensures ∙ day_beyond _ _ _ (begun (begun-before e)) (after e) test
+pub returns-in_default : goal.returns-in_default
+returns-in_default c =
+    let e = later (goal.at.returns-in_default c).After-evaluate-evaluation in
+    let test = beyond_does_not_fit _ _ _ _ (evaluation (goal.at.returns-in_default c).After-evaluate-evaluation ∙ c.in_default.is) in
+    c.unmade-in_default.ensures ∙ day_beyond _ _ _ (begun (begun-before e)) (after e) test
 
 pub evaluate-evaluation-requires : goal.evaluate-evaluation-requires
 evaluate-evaluation-requires c =
@@ -137,14 +137,14 @@ worked_at-requires c =
     record {
       rec_value = known_sound _ b.known;
       d_value = (day_valid_parts _ _ b.valid).0;
-      units_value = (price evaluated c.in-Evaluated.e c.in-Evaluated.is).price;
+      units_value = (price evaluated c.in-Some.e c.in-Some.is).price;
     }
 
-pub returns-in-Evaluated : goal.returns-in-Evaluated
-returns-in-Evaluated c =
-    let evaluated = (goal.at.returns-in-Evaluated c).After-evaluate-evaluation in
+pub returns : goal.returns
+returns c =
+    let evaluated = (goal.at.returns c).After-evaluate-evaluation in
     let e = later evaluated in
-    let p = price evaluated c.in-Evaluated.e c.in-Evaluated.is in
+    let p = price evaluated c.in-Some.e c.in-Some.is in
     c.worked_at.ensures _
     (record { begun = begun (begun-before e); later = after e; fits = p.fits })
     p.is
