@@ -8,10 +8,7 @@ use paper::{Session, Statics};
 pub fn is_evening(session: Session) -> bool
     ensures { result ≡ is_evening session }
 {
-    match session {
-        Session::Main => false,
-        Session::Evening(_) => true,
-    }
+    matches!(session, Session::Evening(_))
 }
 
 // "The evening keeps .. its own seconds u": the seconds that an alert needs.

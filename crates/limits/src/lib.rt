@@ -269,6 +269,7 @@ fn unmoved_bands(
     requires each_of_three { EachOfThree (λ k. valid_term (term_at terms k) ≡ true) }
     ensures { result ≡ three (λ k. unmoved_band g divisor lower upper farthest (term_at terms k)) }
 {
+    // No `map` of the three terms: what a call asks is a fact of its place, which was not proved of a closure.
     [
         unmoved_band(g, divisor, lower, upper, farthest, terms[0]),
         unmoved_band(g, divisor, lower, upper, farthest, terms[1]),
@@ -290,6 +291,7 @@ fn bands_plainly(
     requires bands_asked { BandsAsked p s1 c terms }
     ensures { result ≡ three (λ k. band_of st p.units s1.bp c (term_at terms k)) }
 {
+    // No `map`, as in `unmoved_bands`.
     [
         band_of(st, farthest, p, s1, c, terms[0]),
         band_of(st, farthest, p, s1, c, terms[1]),
@@ -355,11 +357,11 @@ pub fn one_more(side: Side, c: Moves) -> Moves
     match side {
         Side::Upper => Moves {
             upper: c.upper + 1,
-            lower: c.lower,
+            ..c
         },
         Side::Lower => Moves {
-            upper: c.upper,
             lower: c.lower + 1,
+            ..c
         },
     }
 }
@@ -380,12 +382,12 @@ pub fn range_moved(side: Side, delta: u64, x: Limits) -> Limits
 {
     match side {
         Side::Upper => Limits {
-            lower: x.lower,
             upper: x.upper + delta,
+            ..x
         },
         Side::Lower => Limits {
             lower: x.lower.saturating_sub(delta),
-            upper: x.upper,
+            ..x
         },
     }
 }
@@ -396,12 +398,12 @@ pub fn band_moved(side: Side, fresh: Limits, x: Limits) -> Limits
 {
     match side {
         Side::Upper => Limits {
-            lower: x.lower,
             upper: fresh.upper,
+            ..x
         },
         Side::Lower => Limits {
             lower: fresh.lower,
-            upper: x.upper,
+            ..x
         },
     }
 }

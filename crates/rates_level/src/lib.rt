@@ -26,21 +26,19 @@ pub fn level_of(st: Statics, level: u64) -> Level
     requires { RateStatics st }
     ensures { result ≡ level_of st level }
 {
-    if level == 1 {
-        Level {
+    match level {
+        1 => Level {
             days: st.rh1,
             minimum: Rate::of(st.min1),
-        }
-    } else if level == 2 {
-        Level {
+        },
+        2 => Level {
             days: st.rh2,
             minimum: Rate::of(st.min2),
-        }
-    } else {
-        Level {
+        },
+        _ => Level {
             days: st.rh3,
             minimum: Rate::of(st.min3),
-        }
+        },
     }
 }
 

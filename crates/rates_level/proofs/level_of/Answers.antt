@@ -1,16 +1,18 @@
--- `level_of` meets its contract: the tests of the code are those of the two definitions, and each minimum is a rate.
-use borrow.Author.Tests.{eq-eqb, ne_eqb}
+-- `level_of` meets its contract: its arms are the tests of the two definitions, and each minimum is a rate.
+use native.Mathlib.Omega.{arith}
+use borrow.Author.Tests.{ne_eqb}
 use Rattle.paper_desk.specs.Rates.{days_of, minimum_of}
 use Rattle.rates_level.proofs.level_of.Goals as goal
 
-pub returns-then-level-eq1 : goal.returns-then-level-eq1
+pub returns-in-1 : goal.returns-in-1
 unfolding days_of minimum_of
-returns-then-level-eq1 c = rw (eq-eqb _ _ c.if-level-eq1.true, c.of.ensures)
+returns-in-1 c = rw (c.in-1.is, c.of.ensures)
 
-pub returns-then-level-eq2 : goal.returns-then-level-eq2
+pub returns-in-2 : goal.returns-in-2
 unfolding days_of minimum_of
-returns-then-level-eq2 c = rw (ne_eqb _ _ c.if-level-eq1.false, eq-eqb _ _ c.if-level-eq2.true, c.of-then-level-eq2.ensures)
+returns-in-2 c = rw (c.in-2.is, c.of-in-2.ensures)
 
-pub returns-else-level-eq2 : goal.returns-else-level-eq2
+pub returns-in_default : goal.returns-in_default
 unfolding days_of minimum_of
-returns-else-level-eq2 c = rw (ne_eqb _ _ c.if-level-eq1.false, ne_eqb _ _ c.if-level-eq2.false, c.of-else-level-eq2.ensures)
+returns-in_default c =
+    rw (ne_eqb c.args.level 1 (omega arith), ne_eqb c.args.level 2 (omega arith), c.of-in_default.ensures)
