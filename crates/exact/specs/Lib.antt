@@ -1,4 +1,5 @@
 -- The ranges that the contracts of whole-number arithmetic ask for, and laws for those who call it.
+pub mod Chunks
 pub mod EveryLaws
 pub mod LentLaws
 pub mod Remainders

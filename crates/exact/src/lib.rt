@@ -302,10 +302,8 @@ pub fn all_within(numbers: &[i64], at: usize, least: &[i64], most: &[i64]) -> bo
     ensures { result ≡ all_within least.now most.now numbers.now at }
 {
     let mut all = true;
-    let mut i = 0;
-    while i < least.len() {
+    for i in 0..least.len() {
         all = all & within_at(numbers, at + i, least[i], most[i]);
-        i += 1;
     }
     all
 }
@@ -316,14 +314,9 @@ fn every_within(numbers: &[i64], least: &[i64], most: &[i64]) -> bool
     requires least_len { length numbers.now % length least.now ≡ 0 }
     ensures { result ≡ every_within least.now most.now numbers.now }
 {
-    let mut at = 0;
-    while at < numbers.len() {
-        if !all_within(numbers, at, least, most) {
-            return false;
-        }
-        at += least.len();
-    }
-    true
+    numbers
+        .chunks_exact(least.len())
+        .all(|part| all_within(part, 0, least, most))
 }
 
 // Whether a lent slice has only whole parts, `fewest` to `greatest` numbers in all, and each number is in its range.

@@ -1,7 +1,9 @@
 -- Laws of the day's rows: those from a place on, and what a row in range gives.
 use Rattle.std.specs.Prelude.{◌≡◌, true, false, List, ℕ, ◌%◌, ◌≤◌, leb, eqb, ℤ, pos, length}
 use Rattle.std.proofs.Common.{arith, leb-true, eqb-true}
+use Rattle.std.specs.List.{IsSubsliceAt}
 use Rattle.std.specs.Int.Signed.{mag, lt_z}
+use Rattle.std.proofs.Math.Nat.{add-zero}
 use Rattle.paper.specs.declared.Row.{Row}
 use Rattle.paper.specs.Lists.{every}
 use Rattle.paper.specs.Numbers.{row_numbers, all_numbers_most, row_term_most, central_most, repo_most, price_most, volume_most}
@@ -18,6 +20,21 @@ rest_of numbers at = parts_left row_at row_numbers numbers at
 pub rest_first : (numbers : List ℤ) → rest_of numbers 0 ≡ rows_of numbers
 unfolding rows_of
 rest_first numbers = left_first row_at row_numbers numbers
+
+-- a chunk of seven numbers is the row at its place
+pub chunk_is_row : (numbers x : List ℤ) (at : ℕ) → IsSubsliceAt row_numbers numbers at x → row_at x 0 ≡ row_at numbers at
+unfolding row_at
+chunk_is_row numbers x at e =
+    let first = rw add-zero at (e.2 0 (pos 0) (omega arith)) in
+    rw (
+      first,
+      e.2 1 (pos 0) (omega arith),
+      e.2 2 (pos 0) (omega arith),
+      e.2 3 (pos 0) (omega arith),
+      e.2 4 (pos 0) (omega arith),
+      e.2 5 (pos 0) (omega arith),
+      e.2 6 (pos 0) (omega arith),
+    )
 
 -- ---- what numbers that are not refused give
 

@@ -6,7 +6,6 @@ ghost use Rattle.paper.specs.Lists.{every};
 ghost use Rattle.paper.specs.Numbers.{row_numbers};
 ghost use Rattle.paper.specs.Ranges.{row_at, rows_of, whole_rows, close_for_volume, valid_row, valid_rows, row_of};
 ghost use Rattle.paper_desk.specs.Evaluation.{day_rows, is_crossed_row, has_crossed_row};
-ghost use Rattle.rows.specs.RowTests.{passes};
 
 use paper::{Price, Row, Term};
 
@@ -28,13 +27,6 @@ const ROW_MOST: [i64; Row::NUMBERS] = [
     PRICE_MOST,
     VOLUME_MOST,
 ];
-
-// What every row of a day is asked: that its numbers are in range, else 6, and that it is not crossed, else 16.
-#[derive(Clone, Copy)]
-enum RowTest {
-    InRange,
-    NotCrossed,
-}
 
 // "Volume above 0 with close 0 is out of range": whether there is no volume at v, or a close at c.
 fn close_for_volume(rows: &[i64], v: usize, c: usize) -> bool
@@ -91,31 +83,6 @@ pub fn row_crossed(rows: &[i64], at: usize) -> bool
     )
 }
 
-fn row_passes(rows: &[i64], at: usize, test: RowTest) -> bool
-    requires { at + row_numbers ≤ length rows.now }
-    ensures { result ≡ passes test (row_at rows.now at) }
-{
-    match test {
-        RowTest::InRange => row_valid(rows, at),
-        RowTest::NotCrossed => !row_crossed(rows, at),
-    }
-}
-
-// Whether every row passes a test: one walk for both tests, since no function can be handed to another.
-fn every_row_passes(rows: &[i64], test: RowTest) -> bool
-    requires { length rows.now % row_numbers ≡ 0 }
-    ensures { result ≡ every (passes test) (rows_of rows.now) }
-{
-    let mut at = 0;
-    while at < rows.len() {
-        if !row_passes(rows, at, test) {
-            return false;
-        }
-        at += Row::NUMBERS;
-    }
-    true
-}
-
 // "slice length not a multiple of 7 or over 112" is refused.
 pub fn whole_rows(rows: &[i64]) -> bool
     ensures { result ≡ whole_rows rows.now }
@@ -127,10 +94,7 @@ pub fn whole_rows(rows: &[i64]) -> bool
 pub fn rows_valid(rows: &[i64]) -> bool
     ensures { result ≡ valid_rows rows.now }
 {
-    if !whole_rows(rows) {
-        return false;
-    }
-    every_row_passes(rows, RowTest::InRange)
+    whole_rows(rows) && rows.chunks_exact(Row::NUMBERS).all(|row| row_valid(row, 0))
 }
 
 // Whether some row is crossed: the day is then refused 16.
@@ -138,5 +102,6 @@ pub fn has_crossed_row(rows: &[i64]) -> bool
     requires { length rows.now % row_numbers ≡ 0 }
     ensures { result ≡ has_crossed_row (day_rows rows.now) }
 {
-    !every_row_passes(rows, RowTest::NotCrossed)
+    rows.chunks_exact(Row::NUMBERS)
+        .any(|row| row_crossed(row, 0))
 }

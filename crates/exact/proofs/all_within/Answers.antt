@@ -1,7 +1,6 @@
-use mathlib.Core.Path.{◌≡◌, refl}
+use mathlib.Core.Path.{refl}
 use native.Mathlib.Numerals.{add-one}
 use native.Mathlib.Omega.{arith}
-use lib.ListN.{length}
 use mir.Syntax.{w64}
 use mir.Facts.{to_z-of_z}
 use borrow.Author.Rules.{sfits_of}
@@ -11,9 +10,6 @@ use Rattle.exact.proofs.all_within.Goals as goal
 pub loop-i-init : goal.loop-i-init
 unfolding within_first
 loop-i-init c = (omega arith, refl)
-
-pub offset_bounds-most-i : goal.offset_bounds-most-i
-offset_bounds-most-i c = record { fits = omega arith }
 
 pub loop-i-preserved : goal.loop-i-preserved
 unfolding within_first
@@ -27,8 +23,3 @@ loop-i-preserved c = (
     to_z-of_z (sfits_of {w = w64} c.within_at-arg-in-loop-i-1.given),
   ),
 )
-
-pub returns : goal.returns
-returns c =
-    let all : c.loop-i.i ≡ length c.args.least.now = omega arith in
-    rw all at c.loop-i.invariant.1

@@ -1,42 +1,34 @@
+-- `every_within` meets its contract: a chunk holds the numbers from its place on, so that its test is the place's.
+use mathlib.Core.Path.{◌≡◌, refl}
+use mathlib.Core.List.{List}
+use Prim.Native.Nat.{ℕ, zero, suc, ◌+◌, ◌≤◌}
 use native.Mathlib.Omega.{arith}
-use mathlib.Core.Path.{ap}
-use mathlib.Core.Bool.{not}
+use lib.IntN.{ℤ, pos}
 use lib.ListN.{length}
-use Rattle.exact.specs.LentLaws.{Turn, left_first, judging_first, judging_turn, judging_end}
-use Rattle.exact.specs.Within.{all_within, every_within, place, places}
-use Rattle.exact.proofs.every_within.Goals.{In-loop-at}
+use borrow.Author.Rules.{rules}
+use Rattle.std.specs.List.{IsSubsliceAt}
+use Rattle.std.specs.Slice.Iter.{chunks_exact_size, chunks_exact_rest}
+use Rattle.exact.specs.Chunks.{all_answers, chunks_read}
+use Rattle.exact.specs.Within.{within_first, all_within, every_within, place}
 use Rattle.exact.proofs.every_within.Goals as goal
 
-turn : (c : In-loop-at)
-    → let a = c.before.before.args in
-    let width = length a.least.now in
-    Turn (all_within a.least.now a.most.now a.numbers.now) place width a.numbers.now
-    (places width a.numbers.now) c.before.loop-at.at
-turn c =
-    let s = c.before.before in
-    judging_turn _ _ _ _ _ _ s.requires.least_nonzero.0 c.before.loop-at.invariant s.requires.least_len c.loop-at-test.true
-
-pub loop-at-init : goal.loop-at-init
-loop-at-init c = judging_first _ _ _ _ _ (left_first _ _ _)
-
-pub all_within-requires : goal.all_within-requires
-all_within-requires c = record { least_in_bounds = (turn (goal.at.all_within-requires c).In-loop-at).room; most_len = c.requires.least_nonzero.1 }
-
-pub overflow_add-at : goal.overflow_add-at
-overflow_add-at c = omega (arith, (turn (goal.at.overflow_add-at c).In-loop-at).room)
-
-pub loop-at-smaller : goal.loop-at-smaller
-loop-at-smaller c = omega (arith, (turn (goal.at.loop-at-smaller c).In-loop-at).room)
-
-pub returns-then-not-all_within : goal.returns-then-not-all_within
-unfolding every_within
-returns-then-not-all_within c =
-    (turn (goal.at.returns-then-not-all_within c).In-loop-at).fails _ c.all_within.ensures (ap not c.if-not-all_within.true)
-
-pub loop-at-preserved : goal.loop-at-preserved
-loop-at-preserved c =
-    (turn (goal.at.loop-at-preserved c).In-loop-at).goes_on _ c.all_within.ensures (ap not c.if-not-all_within.false)
+-- the first so many of a chunk are those from its place on
+first_same : (least most numbers x : List ℤ) (at n : ℕ) → n ≤ length least → IsSubsliceAt (length least) numbers at x
+    → within_first least most x 0 n ≡ within_first least most numbers at n
+unfolding within_first
+first_same least most numbers x at zero h e = refl
+first_same least most numbers x at (suc n) h e =
+    let here : 0 + n ≡ n = omega arith in
+    rw (first_same least most numbers x at n (omega arith) e, here, e.2 n (pos 0) (omega arith))
 
 pub returns : goal.returns
 unfolding every_within
-returns c = judging_end _ _ _ _ _ _ c.requires.least_nonzero.0 c.loop-at.invariant c.loop-at-test.false
+returns c =
+    let a = c.args in
+    let run = c.all.ensures.runs in
+    let chunks =
+    chunks_read run.0 chunks_exact_size chunks_exact_rest _ _ _ c.requires.least_nonzero.0 run.1 c.chunks_exact.ensures.size
+    c.chunks_exact.ensures.rest (c.chunks_exact.ensures.runs run.0 run.0.seen) in
+    all_answers run.0 _ _ (all_within a.least.now a.most.now a.numbers.now) place _ _ c.requires.least_nonzero.0 chunks
+    (λ x. all_within a.least.now a.most.now x 0) (λ x at part. first_same _ _ _ x at _ (omega arith) part) (λ b. b)
+    (λ x b wide call. search rules) (λ d r f' call. search rules) a.numbers refl refl _ run.2
