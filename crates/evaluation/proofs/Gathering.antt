@@ -2,21 +2,24 @@
 -- the rows still to come decide whether all are in range and taken.
 use mathlib.Core.Path.{◌≡◌, refl, sym, ap, ◌∙◌}
 use mathlib.Core.Bool.{Bool, true, false, not, ◌&&◌, ◌||◌}
-use mathlib.Core.List.{List, [], ◌∷◌, map}
-use Prim.Native.Nat.{ℕ, ◌+◌, ◌≤◌}
+use mathlib.Core.List.{List, [], ◌∷◌, ◌++◌, map}
+use mathlib.Core.Logic.{◌⊎◌, inl, inr}
+use Prim.Native.Nat.{ℕ, ◌+◌, ◌-◌, ◌≤◌, ◌<◌}
 use native.Mathlib.Omega.{arith}
 use borrow.Author.Tests.{not-true}
-use lib.IntN.{ℤ}
-use lib.ListN.{length}
+use lib.IntN.{ℤ, pos}
+use lib.ListN.{length, drop, get_or, get_or-append, length-append}
+use lib.Seq.{drop-append_seam, drop-drop, get_or-drop}
+use Rattle.std.proofs.Common.{length-drop}
 use Rattle.paper.specs.declared.Row.{Row}
 use Rattle.paper.specs.Lists.{every, some}
 use Rattle.paper.specs.Numbers.{row_numbers}
 use Rattle.paper.specs.Ranges.{LentRow, row_at, rows_of, whole_rows, valid_row, valid_rows, row_of}
 use Rattle.paper_desk.specs.Evaluation.{roubles_of, day_rows, is_crossed_row, has_crossed_row, row_fits}
-use Rattle.paper.proofs.Logic.{not_true_and_false, and_left, and_right}
+use Rattle.paper.proofs.Logic.{not_true_and_false, and_left, and_right, le_or_lt}
 use Rattle.exact.specs.EveryLaws.{every_cons, every_in, every_out, every_nil}
-use Rattle.exact.specs.LentLaws.{Place, place_first, place_next, left_here, left_end}
-use Rattle.rows.specs.RowLaws.{rest_of, rest_first, valid_row_in_range}
+use Rattle.exact.specs.LentLaws.{Place, place_first, place_next, place_room, left_here, left_end}
+use Rattle.rows.specs.RowLaws.{rest_of, rest_first, same_row, whole_in_sevens, valid_row_in_range}
 use Rattle.evaluation.specs.declared.Book.{Book}
 use Rattle.std.specs.declared.result.Result.{Result}
 use Rattle.std.specs.declared.result.Result.TheVariants.{Ok, Err}
@@ -141,6 +144,68 @@ module _ (numbers : List ℤ) (at : ℕ) (b : Book) (room : at + row_numbers ≤
     pub row_refused_not_all_taken : is_taken row ≡ false → every is_taken (day_rows numbers) ≡ false
     row_refused_not_all_taken e = sym g.taken ∙ split
         ∙ ap (λ (t : Bool). t && every is_taken (rows_left numbers (at + row_numbers))) e
+
+-- ---- the walk over chunks of seven: what is left of the numbers begins at a place
+
+pub record Walking (numbers ahead : List ℤ) (size : ℕ) (b : Book) : Type 0 where
+  pub at : ℕ
+  pub is : ahead ≡ drop at numbers
+  pub seven : size ≡ row_numbers
+  pub gathering : Gathering numbers at b
+
+pub walking_first : (numbers rest : List ℤ) (size : ℕ) → rest ≡ numbers → size ≡ row_numbers
+    → Walking numbers rest size empty
+walking_first numbers rest size e n = record { at = 0; is = e; seven = n; gathering = gathering_first numbers }
+
+left_length : (numbers ahead : List ℤ) (size : ℕ) (b : Book) (w : Walking numbers ahead size b)
+    → length ahead ≡ length numbers - w.at
+left_length numbers ahead size b w = ap length w.is ∙ length-drop w.at numbers
+
+-- a chunk is the row at hand, and the rest begins behind it
+module _ (numbers ahead : List ℤ) (size : ℕ) (b : Book) (w : Walking numbers ahead size b) (x rest : List ℤ)
+    (e : ahead ≡ x ++ rest) (n : length x ≡ size) where
+  pub chunk_room : w.at + row_numbers ≤ length numbers
+  chunk_room = omega (arith, left_length numbers ahead size b w, ap length e ∙ length-append x rest, n, w.seven)
+
+  pub chunk_row : row_at x 0 ≡ row_at numbers w.at
+  chunk_row =
+      same_row numbers x w.at
+      (λ j h.
+      sym (get_or-append x rest (pos 0) j (omega (arith, n, w.seven, h)))
+      ∙ sym (ap (λ (l : List ℤ). get_or l j (pos 0)) e)
+      ∙ ap (λ (l : List ℤ). get_or l j (pos 0)) w.is
+      ∙ get_or-drop w.at numbers j (pos 0))
+
+  pub walking_next : (s : ℕ) (c : Book) → s ≡ size → Gathering numbers (w.at + row_numbers) c → Walking numbers rest s c
+  walking_next s c same g =
+      record {
+        at = w.at + row_numbers;
+        is =
+            sym (drop-append_seam x rest)
+            ∙ ap (λ (k : ℕ). drop k (x ++ rest)) (n ∙ w.seven)
+            ∙ ap (λ (l : List ℤ). drop row_numbers l) (sym e ∙ w.is)
+            ∙ drop-drop row_numbers w.at numbers;
+        seven = same ∙ w.seven;
+        gathering = g;
+      }
+
+-- where no chunk is left the place is the end
+pub walked : (numbers ahead : List ℤ) (size : ℕ) (b : Book) (w : Walking numbers ahead size b) → whole_rows numbers ≡ true
+    → length ahead < size
+    → length numbers ≤ w.at
+walked numbers ahead size b w whole short = go (le_or_lt (length numbers) w.at)
+  where
+    go : (length numbers ≤ w.at) ⊎ (w.at < length numbers) → length numbers ≤ w.at
+    go (inl l) = l
+    go (inr l) =
+        absurd
+        (omega (
+          arith,
+          place_room row_numbers numbers w.at (whole_in_sevens numbers whole) w.gathering.place l,
+          left_length numbers ahead size b w,
+          w.seven,
+          short,
+        ))
 
 -- at the end the book is that of all rows
 pub walked_rows_gather : (numbers : List ℤ) (at : ℕ) (b : Book) → whole_rows numbers ≡ true → length numbers ≤ at

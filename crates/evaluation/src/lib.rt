@@ -256,18 +256,16 @@ pub fn gather(rows: &[i64]) -> Result<Book, RowsRefused>
         return Err(RowsRefused::OutOfRange);
     }
     let mut book = Book::default();
-    let mut at = 0;
-    while at < rows.len() {
-        if !rows::row_valid(rows, at) {
+    for numbers in rows.chunks_exact(Row::NUMBERS) {
+        if !rows::row_valid(numbers, 0) {
             return Err(RowsRefused::OutOfRange);
         }
-        let row = rows::row_at(rows, at);
+        let row = rows::row_at(numbers, 0);
         let r = in_roubles(row);
         if !row_taken(row, r) {
             return Err(refused(rows));
         }
         book = add(book, r);
-        at += Row::NUMBERS;
     }
     Ok(book)
 }

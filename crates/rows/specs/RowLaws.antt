@@ -1,5 +1,5 @@
 -- Laws of the day's rows: those from a place on, and what a row in range gives.
-use Rattle.std.specs.Prelude.{◌≡◌, true, false, List, ℕ, ◌%◌, ◌≤◌, leb, eqb, ℤ, pos, length}
+use Rattle.std.specs.Prelude.{◌≡◌, true, false, List, ℕ, ◌%◌, ◌≤◌, leb, eqb, ℤ, pos, length, get_or, ◌+◌, ◌<◌}
 use Rattle.std.proofs.Common.{arith, leb-true, eqb-true}
 use Rattle.std.specs.List.{IsSubsliceAt}
 use Rattle.std.specs.Int.Signed.{mag, lt_z}
@@ -21,20 +21,25 @@ pub rest_first : (numbers : List ℤ) → rest_of numbers 0 ≡ rows_of numbers
 unfolding rows_of
 rest_first numbers = left_first row_at row_numbers numbers
 
--- a chunk of seven numbers is the row at its place
-pub chunk_is_row : (numbers x : List ℤ) (at : ℕ) → IsSubsliceAt row_numbers numbers at x → row_at x 0 ≡ row_at numbers at
+-- seven numbers that stand at a place are the row there, and so is a chunk of seven
+pub same_row : (numbers x : List ℤ) (at : ℕ)
+    → ((j : ℕ) → j < row_numbers → get_or x j (pos 0) ≡ get_or numbers (at + j) (pos 0))
+    → row_at x 0 ≡ row_at numbers at
 unfolding row_at
-chunk_is_row numbers x at e =
-    let first = rw add-zero at (e.2 0 (pos 0) (omega arith)) in
+same_row numbers x at e =
+    let first = rw add-zero at (e 0 (omega arith)) in
     rw (
       first,
-      e.2 1 (pos 0) (omega arith),
-      e.2 2 (pos 0) (omega arith),
-      e.2 3 (pos 0) (omega arith),
-      e.2 4 (pos 0) (omega arith),
-      e.2 5 (pos 0) (omega arith),
-      e.2 6 (pos 0) (omega arith),
+      e 1 (omega arith),
+      e 2 (omega arith),
+      e 3 (omega arith),
+      e 4 (omega arith),
+      e 5 (omega arith),
+      e 6 (omega arith),
     )
+
+pub chunk_is_row : (numbers x : List ℤ) (at : ℕ) → IsSubsliceAt row_numbers numbers at x → row_at x 0 ≡ row_at numbers at
+chunk_is_row numbers x at e = same_row numbers x at (λ j h. e.2 j (pos 0) h)
 
 -- ---- what numbers that are not refused give
 

@@ -1,11 +1,6 @@
 -- `evaluation::gather` meets its contract: each turn is one law of `Gathering`.
-use Prim.Native.Nat.{◌-◌}
-use lib.ListN.{length}
-use Rattle.evaluation.proofs.Gathering.{Gathering}
+use Rattle.evaluation.proofs.Gathering.{Walking}
 use Rattle.evaluation.proofs.gather.Given as goal
 
-abbrev pub invariant-loop-at : goal.invariant-loop-at
-invariant-loop-at l = Gathering l.rows l.at l.book
-
-abbrev pub decreases-loop-at : goal.decreases-loop-at
-decreases-loop-at l = length l.rows - l.at
+abbrev pub invariant-loop-numbers : goal.invariant-loop-numbers
+invariant-loop-numbers l = Walking l.rows l.numbers-iterator.rest.now l.numbers-iterator.size l.book
