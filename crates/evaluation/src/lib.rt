@@ -321,11 +321,8 @@ fn on_grid(g: u64, p: u64, figures: PriceFigures) -> Option<Priced>
     requires { (1 ≤ g) × (g ≤ coarsest_grid) × (p ≤ price_most) }
     ensures { result ≡ evaluation_from (to_grid g p 1) figures }
 {
-    let made = Price::new(exact::to_grid(g, p, 1));
-    match made {
-        Some(price) => Some(Priced { price, figures }),
-        None => None,
-    }
+    let price = Price::new(exact::to_grid(g, p, 1))?;
+    Some(Priced { price, figures })
 }
 
 // The evaluation of rows as they were gathered, where neither 6 nor 16 refuses them; none where 7 does. `used` is the
