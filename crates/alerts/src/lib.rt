@@ -36,14 +36,7 @@ pub fn is_near(side: Side, w: u64, x: Limits, price: u64) -> bool
 pub fn near_after(near: bool, old: Option<u64>, second: u64) -> Option<u64>
     ensures { result ≡ near_after near old second }
 {
-    if near {
-        match old {
-            None => Some(second),
-            Some(earlier) => Some(earlier),
-        }
-    } else {
-        None
-    }
+    near.then_some(old.unwrap_or(second))
 }
 
 // "near, and at least u seconds since that second"
@@ -52,13 +45,7 @@ pub fn alert(u: u64, n: Option<u64>, second: u64) -> bool
 {
     match n {
         None => false,
-        Some(since) => {
-            if second < since {
-                false
-            } else {
-                u <= second - since
-            }
-        }
+        Some(since) => since <= second && u <= second - since,
     }
 }
 

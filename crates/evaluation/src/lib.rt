@@ -1,6 +1,7 @@
 // The evaluation of a day from its rows (6.1), with the roundings (a) to (d). The previous evaluation and the day's are
 // prices. The prices of the rows, and what is made of them before 7 has judged it, are bare numbers of units: 0 is
-// missing there, and a figure may be beyond a price's range.
+// missing there, and a figure may be beyond a price's range. That a row is in range is a clause and no ghost field: a
+// `Row` is a type of the definitions, which make it of lent numbers.
 #![tactic(auto)]
 
 ghost use Rattle.std.specs.Prelude.{◌≡◌, true, false, ◌*◌, ◌≤◌, Err};

@@ -1,6 +1,7 @@
 // Whole-number arithmetic that loses nothing: the roundings of document 01, "Places of rounding", the least root of
 // clause 7.1, and signed numbers, given or lent. Every result is a definition of `paper`, for every input that its
-// callers can have.
+// callers can have. What several contracts ask (a divisor above 0, a place in a slice, a sum that fits) are facts of
+// bare numbers, which callers have from the paper's ranges: a struct around a number would be no plainer.
 #![tactic(auto)]
 
 ghost use Rattle.std.specs.Prelude.{◌≡◌, false, ◌+◌, ◌-◌, ◌*◌, ◌/◌, ◌%◌, ◌^◌, ◌≤◌, ◌<◌, pos, length, get_or};
@@ -203,7 +204,8 @@ fn root_bits(factor: u64, n: u64) -> u64
 // The least x with factor·x² >= n (7.1), by shifts, sums and comparisons only (W-204; `outside/root` reads what they
 // become). The bits of the greatest x with factor·x² < n are found from the top, in 16 turns or in 20. There are two
 // loops so that the compiler knows how many turns each has. It writes them out without a jump, and the root is too long
-// to be put into its callers, where `outside/root` would not see it.
+// to be put into its callers, where `outside/root` would not see it. They count by hand, since W-204 asks for this
+// machine code.
 pub fn least_root(factor: u64, n: u64) -> u64
     requires { (0 < factor) × (factor ≤ one_in_ten_thousandths) × (n ≤ factor * 2 ^ 40) }
     ensures { result ≡ least_root factor n }
@@ -267,7 +269,7 @@ pub fn grow(base: u64, k: u64, rate: i64) -> u64
     }
 }
 
-// ---- a number of a lent slice
+// ---- a number of a lent slice: the place stands beside the slice, as in `numbers[i]`
 
 // The number at i; one below zero is read as a number that no range holds.
 pub fn unsigned_at(numbers: &[i64], i: usize) -> u64

@@ -77,7 +77,7 @@ pub fn valid_quote(q: Quote) -> bool
         & (q.ask <= Quote::PRICE_MOST)
 }
 
-// "A move names a side, 0 upper or 1 lower."
+// "A move names a side, 0 upper or 1 lower.": the number of a line or of C, judged before it is a `Side`.
 pub fn valid_side(side: u64) -> bool
     ensures { result ≡ valid_side side }
 {

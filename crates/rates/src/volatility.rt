@@ -82,7 +82,7 @@ pub fn replaces(m: Model, b: u64, last: u64, r: u64, x: u64) -> bool
     false
 }
 
-// New s, and whether it is the replacement.
+// New s, and whether it is the replacement: s stands whichever won, so that no Option says it.
 #[derive(Clone, Copy)]
 pub struct Volatility {
     pub s: u64,

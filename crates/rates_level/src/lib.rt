@@ -1,5 +1,6 @@
 // The rate of a level (7.1). It and the level's minimum are rates; the tentative rate that it is made of is a bare
-// number, whose range is its own.
+// number, whose range is its own. A level is its number, as the definitions have it and as C's callers give it; each
+// public function asks `RateStatics` of the statics that it is handed, which are a type of the definitions.
 #![tactic(auto)]
 
 mod guess; // a guess of that rate
@@ -75,7 +76,8 @@ fn reaches(x: u64, a: u64, b: u64) -> bool
     4 * a * b <= rest * rest
 }
 
-// By halves: at most 14 comparisons between 0 and S_max.
+// By halves: at most 14 comparisons between 0 and S_max. The library's `partition_point` searches a slice, and these are
+// numbers.
 fn least_reach(low: u64, high: u64, step: u64, a: u64, b: u64) -> u64
     requires { (low ≤ high) × (high * step ≤ reach_most) × (a ≤ square_most) × (b ≤ square_most) }
     ensures { result ≡ least_reach low high step a b }

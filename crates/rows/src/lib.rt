@@ -38,7 +38,8 @@ fn close_for_volume(rows: &[i64], v: usize, c: usize) -> bool
     (volume <= 0) | (1 <= close)
 }
 
-// Whether each number of a row is in its range, and there is a close for a volume.
+// Whether each number of a row is in its range, and there is a close for a volume. The place stands beside the slice,
+// since the exchange's text judges a row behind its id in one slice.
 pub fn row_valid(rows: &[i64], at: usize) -> bool
     requires { at + row_numbers ≤ length rows.now }
     ensures { result ≡ valid_row (row_at rows.now at) }

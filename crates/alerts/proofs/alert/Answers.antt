@@ -26,10 +26,11 @@ pub returns-in-None : goal.returns-in-None
 unfolding alert
 returns-in-None c = rw c.in-None.is
 
-pub returns-then-second-since : goal.returns-then-second-since
+pub returns-then-since-second : goal.returns-then-since-second
 unfolding alert
-returns-then-second-since c = rw c.in-Some.is (sym (too_early _ _ _ c.if-second-since.true))
+returns-then-since-second c = rw c.in-Some.is (between _ _ _ c.if-since-second.true)
 
-pub returns-else-second-since : goal.returns-else-second-since
+pub returns-else-since-second : goal.returns-else-since-second
 unfolding alert
-returns-else-second-since c = rw c.in-Some.is (between _ _ _ c.if-second-since.false)
+returns-else-since-second c =
+    rw c.in-Some.is (lt-leb _ _ c.if-since-second.false ∙ sym (too_early _ _ _ c.if-since-second.false))
