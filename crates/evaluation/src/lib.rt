@@ -26,8 +26,8 @@ const NARROW_MOST: u64 = u64::MAX / YEAR_DAYS;
 // price of 10^10 times 365 times it, with half of a year's days, fits 64 bits.
 const ONCE_CENTRAL_MOST: u64 = 5_000_000;
 
-// What the rows come to: their weights, their closes times their weights, the greatest bid and the least ask. Of no rows
-// it is the default.
+// What the rows come to: their weights, their closes times their weights, the greatest bid and the least ask. Of no
+// rows it is the default.
 #[derive(Clone, Copy, Default)]
 pub struct Book {
     weight: u64,

@@ -4,8 +4,8 @@
 // (fifty moves and a term of 30 days take it past every limit), `Limits`, the pair that a record holds and that the
 // quick way of the bands makes at once, delta, and what a move makes of the pair: a sum that the sequence of calls
 // keeps in range, and not the rule. `narrower` takes bare numbers, since the limits of a bond, which it serves too, are
-// in hundredths of a per cent. A repo rate is a bare number, which may be negative. Valid statics and ranges are clauses
-// of each function, and no fields of a struct: `Statics` is a type of the definitions, public functions take it by
+// in hundredths of a per cent. A repo rate is a bare number, which may be negative. Valid statics and ranges are
+// clauses of each function, and no fields of a struct: `Statics` is a type of the definitions, public functions take it by
 // itself, and a struct around it would be copied (docs/DESIGN.md, "Records go by value").
 #![tactic(auto)]
 

@@ -1,6 +1,6 @@
 // The rates (7.1): from the move of a day to its volatility, the tentative rate, and the rates that `rates_level` makes
-// of it. The rules take statics and figures, and no security. A volatility is a bare number with its clause, as it is in
-// a record and in the definitions.
+// of it. The rules take statics and figures, and no security. A volatility is a bare number with its clause, as it is
+// in a record and in the definitions.
 #![tactic(auto)]
 
 pub mod tentative; // the tentative rate

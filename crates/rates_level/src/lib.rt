@@ -76,8 +76,8 @@ fn reaches(x: u64, a: u64, b: u64) -> bool
     4 * a * b <= rest * rest
 }
 
-// By halves: at most 14 comparisons between 0 and S_max. The library's `partition_point` searches a slice, and these are
-// numbers.
+// By halves: at most 14 comparisons between 0 and S_max. The library's `partition_point` searches a slice, and these
+// are numbers.
 fn least_reach(low: u64, high: u64, step: u64, a: u64, b: u64) -> u64
     requires { (low ≤ high) × (high * step ≤ reach_most) × (a ≤ square_most) × (b ≤ square_most) }
     ensures { result ≡ least_reach low high step a b }
