@@ -1,4 +1,3 @@
 -- The definitions of text_answer, a file each.
 pub mod Sizes
-pub mod Answered
 pub mod WhySizes

@@ -7,14 +7,14 @@ use Rattle.text_out.specs.Sizes.{next_word_bytes}
 abbrev pub fault_bytes : ℕ
 fault_bytes = next_word_bytes + next_bytes
 
--- what set the rates of the three levels: the name of each and its reason
-abbrev pub levels_bytes : ℕ
-levels_bytes = 6 * next_word_bytes
+-- what is named, and its reason
+abbrev pub named_bytes : ℕ
+named_bytes = 2 * next_word_bytes
 
 -- the figures that decided: their name, and six numbers
 abbrev pub figures_bytes : ℕ
 figures_bytes = next_word_bytes + 6 * next_bytes
 
--- the four names before the levels, each with its reason, the levels, and the figures
+-- the seven names, each with its reason, and the figures
 abbrev pub reasons_bytes : ℕ
-reasons_bytes = 8 * next_word_bytes + (levels_bytes + figures_bytes)
+reasons_bytes = 7 * named_bytes + figures_bytes

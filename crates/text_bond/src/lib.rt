@@ -1,15 +1,13 @@
 // The evening's bond line (document 02, W-206): what the call is given, from the numbers of the line, and its answer,
-// appended to a lent buffer. How a bond is worked out is the crate `bond`'s; nothing here depends on it.
-#![tactic(auto)]
+// appended to a text. How a bond is worked out is the crate `bond`'s; nothing here depends on it.
+#![tactic(auto, using(text_out::specs::Appends::appending), unfolding(paper::specs::Verdicts::is_done, text_bytes::specs::Numbers::spaced, text_bytes::specs::Numbers::answer_text, text_protocol::specs::Answers::bond_figures_numbers, text_protocol::specs::Answers::bond_limits_numbers, text_protocol::specs::Answers::bond_text))]
 
-ghost use Rattle.std.specs.Prelude.{◌≡◌, ◌++◌, ◌+◌, ◌*◌, ◌≤◌};
+ghost use Rattle.std.specs.Prelude.{◌≡◌, ◌++◌, ◌+◌, ◌*◌, ◌≤◌, length};
 ghost use Rattle.text_bytes.specs.Bytes.{room};
 ghost use Rattle.text_protocol.specs.Calls.{bond_statics_of, bond_of};
 ghost use Rattle.text_protocol.specs.Answers.{bond_figures_numbers, bond_limits_numbers, bond_numbers, bond_text};
-ghost use Rattle.text_bytes.specs.Numbers.{answer_text};
+ghost use Rattle.text_bytes.specs.Numbers.{answer_text, spaced};
 ghost use Rattle.text_protocol.specs.Answers.{answer_most};
-ghost use Rattle.text_out.specs.Wrote.{Wrote};
-ghost use Rattle.text_out.specs.Told.{Told};
 ghost use Rattle.text_out.specs.Places.{next_bytes};
 
 use inputs::number_at;
@@ -17,9 +15,8 @@ use paper::Tentative;
 use paper_bonds::{Bond, BondAnswer, BondLimits, BondStatics};
 use text_answer::record::put_rates;
 use text_answer::say_number;
-use text_bytes::ROOM;
 use text_call::{signed_at, term_of};
-use text_out::{put_byte, put_next, put_number};
+use text_out::Text;
 use text_protocol::{Kept, Pairs, bond_place};
 
 // ---- what is given
@@ -72,52 +69,51 @@ pub fn bond_of(k: Kept, p: Pairs, zs: &[i64]) -> Bond
 // ---- what is answered
 
 // P TENTATIVE AGE
-fn put_figures(out: &mut [u8; ROOM], len: usize, gross: u64, tentative: Tentative) -> usize
-    requires { len + 3 * next_bytes ≤ room }
-    ensures { Told out.old len out.new result (bond_figures_numbers gross tentative)
-        (3 * next_bytes) }
+fn put_figures(out: &mut Text, gross: u64, tentative: Tentative)
+    requires { length out.old + 3 * next_bytes ≤ room }
+    ensures text { out.new ≡ out.old ++ spaced (bond_figures_numbers gross tentative) }
+    ensures most { length out.new ≤ length out.old + 3 * next_bytes }
 {
-    let n = put_next(out, len, gross);
-    let n = put_next(out, n, tentative.bp);
-    put_next(out, n, tentative.age)
+    out.put_next(gross);
+    out.put_next(tentative.bp);
+    out.put_next(tentative.age);
 }
 
 // LOWER UPPER OFFLOWER OFFUPPER
-fn put_limits(out: &mut [u8; ROOM], len: usize, x: BondLimits) -> usize
-    requires { len + 4 * next_bytes ≤ room }
-    ensures { Told out.old len out.new result (bond_limits_numbers x) (4 * next_bytes) }
+fn put_limits(out: &mut Text, x: BondLimits)
+    requires { length out.old + 4 * next_bytes ≤ room }
+    ensures text { out.new ≡ out.old ++ spaced (bond_limits_numbers x) }
+    ensures most { length out.new ≤ length out.old + 4 * next_bytes }
 {
-    let n = put_next(out, len, x.band.lower);
-    let n = put_next(out, n, x.band.upper);
-    let n = put_next(out, n, x.off.lower);
-    put_next(out, n, x.off.upper)
+    out.put_next(x.band.lower);
+    out.put_next(x.band.upper);
+    out.put_next(x.off.lower);
+    out.put_next(x.off.upper);
 }
 
 // P TENTATIVE AGE S1 S2 S3, and the limits of each term.
-fn say_worked(out: &mut [u8; ROOM], len: usize, a: BondAnswer) -> usize
-    requires { len + answer_most ≤ room }
-    ensures { Wrote out.old len out.new result (answer_text 0 (bond_numbers a)) answer_most }
+fn say_worked(out: &mut Text, a: BondAnswer)
+    requires { length out.old + answer_most ≤ room }
+    ensures text { out.new ≡ out.old ++ answer_text 0 (bond_numbers a) }
+    ensures most { length out.new ≤ length out.old + answer_most }
 {
-    let tentative = a.tentative;
-    let rates = a.rates;
-    let limits = a.limits;
-    let n = put_number(out, len, 0);
-    let n = put_figures(out, n, a.gross, tentative);
-    let n = put_rates(out, n, rates);
-    let n = put_limits(out, n, limits[0]);
-    let n = put_limits(out, n, limits[1]);
-    let n = put_limits(out, n, limits[2]);
-    put_byte(out, n, b'\n')
+    out.put_number(0);
+    put_figures(out, a.gross, a.tentative);
+    put_rates(out, a.rates);
+    put_limits(out, a.limits[0]);
+    put_limits(out, a.limits[1]);
+    put_limits(out, a.limits[2]);
+    out.put_byte(b'\n');
 }
 
-pub fn say_bond(out: &mut [u8; ROOM], len: usize, a: BondAnswer) -> usize
-    requires { len + answer_most ≤ room }
-    ensures { Wrote out.old len out.new result (bond_text a) answer_most }
+pub fn say_bond(out: &mut Text, a: BondAnswer)
+    requires { length out.old + answer_most ≤ room }
+    ensures text { out.new ≡ out.old ++ bond_text a }
+    ensures most { length out.new ≤ length out.old + answer_most }
 {
-    let verdict = a.verdict;
-    let no = verdict.number();
+    let no = a.verdict.number();
     if no == 0 {
-        return say_worked(out, len, a);
+        return say_worked(out, a);
     }
-    say_number(out, len, no)
+    say_number(out, no);
 }

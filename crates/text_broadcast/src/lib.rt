@@ -1,13 +1,12 @@
-// What a line is broadcast as (document 02, W-212): the messages of its call, by the call's role, appended to a lent
-// buffer by the writer of the library; and the messages that begin and end a stream of them. Nothing here depends on how
-// a message is encoded.
-#![tactic(auto)]
+// What a line is broadcast as (document 02, W-212): the messages of its call, by the call's role, appended to a text by
+// the writer of the library; and the messages that begin and end a stream of them. Nothing here depends on how a message
+// is encoded.
+#![tactic(auto, using(text_out::specs::Appends::appending), unfolding(paper_messages::specs::Broadcast::all_sent, crate::specs::Sent::messages_shown, crate::specs::Sent::shown_to, crate::specs::Sent::broadcast_shown, crate::specs::Sent::count_shown))]
 
-ghost use Rattle.std.specs.Prelude.{◌≡◌, ◌+◌, ◌≤◌, length, set};
+ghost use Rattle.std.specs.Prelude.{◌≡◌, ◌++◌, ◌+◌, ◌≤◌, length, set};
 ghost use Rattle.text_bytes.specs.Bytes.{room};
 ghost use Rattle.text_protocol.specs.Answers.{answer_most};
 ghost use Rattle.paper_messages.specs.Broadcast.{message_most, sent};
-ghost use Rattle.text_out.specs.Wrote.{Wrote};
 ghost use Rattle.paper_messages.specs.Bytes.{signed_of};
 ghost use Rattle.paper_messages.specs.Fields.{sum_width};
 ghost use Rattle.paper_streams.specs.Streams.{begin_message, end_message};
@@ -23,49 +22,45 @@ use paper::{Answer, Verdict};
 use paper_messages::Message;
 use paper_reasons::Reasons;
 use paper_streams::Stream;
-use text_bytes::ROOM;
+use text_out::Text;
 use text_protocol::Role;
 
 // One message: nothing, where the writer refuses it for a field out of its range.
-pub fn send(out: &mut [u8], len: usize, m: Message) -> usize
-    requires { (len + message_most ≤ room) × (length out.old ≡ room) }
-    ensures { Wrote out.old len out.new result (sent m) message_most }
+pub fn send(out: &mut Text, m: Message)
+    requires { length out.old + message_most ≤ room }
+    ensures text { out.new ≡ out.old ++ sent m }
+    ensures most { length out.new ≤ length out.old + message_most }
 {
-    let w = write(&mut out[len..], m);
-    len + w.length
+    let mut message = [0; Message::BYTES_MOST];
+    let w = write(&mut message, m);
+    out.put_bytes(&message[..w.length]);
 }
 
 // What a call of a role sends where it is accepted: kind 1 of an admission, 2, 3 and 5 of an evaluation, 4 of a move, 8
 // of an opening. A refused call sends nothing.
-pub fn say_messages(
-    out: &mut [u8; ROOM],
-    len: usize,
-    role: Role,
-    answer: Answer,
-    reasons: Reasons,
-) -> usize
-    requires { len + answer_most ≤ room }
-    ensures { Wrote out.old len out.new result (broadcast_shown role answer reasons) answer_most }
+pub fn say_messages(out: &mut Text, role: Role, answer: Answer, reasons: Reasons)
+    requires { length out.old + answer_most ≤ room }
+    ensures text { out.new ≡ out.old ++ broadcast_shown role answer reasons }
+    ensures most { length out.new ≤ length out.old + answer_most }
 {
-    let verdict = answer.verdict;
-    let rec = answer.rec;
-    if !verdict.is_done() {
-        return len;
+    if !answer.verdict.is_done() {
+        return;
     }
     match role {
         Role::Admission(admission) => {
-            let given = admission.given;
-            send(out, len, statics_message(admission.id, statics_of(given)))
+            send(
+                out,
+                statics_message(admission.id, statics_of(admission.given)),
+            );
         }
         Role::Evaluation(_, _) => {
-            let n = send(out, len, rates_message(rec));
-            let m = send(out, n, bands_message(rec));
-            send(out, m, reasons_message(rec, reasons))
+            send(out, rates_message(answer.rec));
+            send(out, bands_message(answer.rec));
+            send(out, reasons_message(answer.rec, reasons));
         }
-        Role::Quote => len,
-        Role::Move(side) => send(out, len, move_message(rec, side)),
-        Role::Opening => send(out, len, session_message(rec)),
-        Role::Other => len,
+        Role::Move(side) => send(out, move_message(answer.rec, side)),
+        Role::Opening => send(out, session_message(answer.rec)),
+        Role::Quote | Role::Other => {}
     }
 }
 
@@ -77,12 +72,9 @@ pub fn count_messages(role: Role, verdict: Verdict) -> u64
         return 0;
     }
     match role {
-        Role::Admission(_) => 1,
+        Role::Admission(_) | Role::Move(_) | Role::Opening => 1,
         Role::Evaluation(_, _) => 3,
-        Role::Quote => 0,
-        Role::Move(_) => 1,
-        Role::Opening => 1,
-        Role::Other => 0,
+        Role::Quote | Role::Other => 0,
     }
 }
 

@@ -1,15 +1,14 @@
 // What a line asks for, and what is answered to it at once where that stands beside the table; and the text of its
-// answer, in each way that lines are told. A way of telling more is a case more of `asks_why`, `in_words` and
+// answer, in each way that lines are told. A way of telling more is a case more of `asks_why`, `say` and
 // `say_call`.
-#![tactic(auto)]
+#![tactic(auto, using(text_out::specs::Appends::appending), unfolding(text_evening::specs::Evening::worded, crate::specs::Deeds::asks_why, crate::specs::Deeds::fault_shown, crate::specs::Deeds::reason_for, crate::specs::Deeds::reasons_in, crate::specs::Deeds::call_said, crate::specs::Deeds::line_text, crate::specs::Deeds::ask_count, crate::specs::Deeds::line_count))]
 
-ghost use Rattle.std.specs.Prelude.{◌≡◌, ◌+◌, ◌≤◌};
+ghost use Rattle.std.specs.Prelude.{◌≡◌, ◌++◌, ◌+◌, ◌≤◌, length};
 ghost use Rattle.text_bytes.specs.Bytes.{room};
 ghost use Rattle.text_protocol.specs.Calls.{deed_of, deed_asked};
 ghost use Rattle.text_protocol.specs.Answers.{answer_most};
-ghost use Rattle.text_out.specs.Wrote.{Wrote};
 ghost use Rattle.text_line.specs.ReadLine.{said_as};
-ghost use Rattle.text_deed.specs.Deeds.{asks_why, in_words, fault_shown, reason_said, reasons_in, call_said, line_text};
+ghost use Rattle.text_deed.specs.Deeds.{asks_why, fault_shown, reason_said, reasons_in, call_said, line_text};
 ghost use Rattle.text_deed.specs.Deeds.{ask_count, line_count, AsksFor};
 
 use paper::{Answer, InterestAnswer, Verdict};
@@ -21,11 +20,11 @@ use text_answer::why::{say_field, say_why};
 use text_answer::{say_answer, say_bad};
 use text_bond::{bond_of, say_bond};
 use text_broadcast::{count_messages, say_messages};
-use text_bytes::ROOM;
 use text_call::kept::kept_after;
 use text_call::{call_of, figures, interest_of};
 use text_evening::Telling;
 use text_line::Line;
+use text_out::Text;
 use text_protocol::{Ask, CallKind, Kept, Pairs, Performed, Role, bond_place, interest_place};
 
 // What the calls beside the table answer to a line, the interest side's and a bond's: only the one that the line asks
@@ -134,53 +133,32 @@ pub fn asks_why(telling: Telling) -> bool
 {
     match telling {
         Telling::Answers => false,
-        Telling::Reasons => true,
-        Telling::Messages(_) => true,
-    }
-}
-
-// Whether what is no message is told.
-fn in_words(telling: Telling) -> bool
-    ensures { result ≡ in_words telling }
-{
-    match telling {
-        Telling::Answers => true,
-        Telling::Reasons => true,
-        Telling::Messages(_) => false,
+        Telling::Reasons | Telling::Messages(_) => true,
     }
 }
 
 // Appends an answer without a reason, and of an admission the number of its line that is at fault.
-fn say_fault(out: &mut [u8; ROOM], len: usize, role: Role, answer: Answer) -> usize
-    requires { len + answer_most ≤ room }
-    ensures { Wrote out.old len out.new result (fault_shown role answer) answer_most }
+fn say_fault(out: &mut Text, role: Role, answer: Answer)
+    requires { length out.old + answer_most ≤ room }
+    ensures text { out.new ≡ out.old ++ fault_shown role answer }
+    ensures most { length out.new ≤ length out.old + answer_most }
 {
-    match role {
-        Role::Admission(given) => {
-            let verdict = answer.verdict;
-            let field = field_at_fault(given);
-            say_field(out, len, verdict, field)
-        }
-        Role::Evaluation(_, _) => say_answer(out, len, role, answer),
-        Role::Quote => say_answer(out, len, role, answer),
-        Role::Move(_) => say_answer(out, len, role, answer),
-        Role::Opening => say_answer(out, len, role, answer),
-        Role::Other => say_answer(out, len, role, answer),
+    if let Role::Admission(given) = role {
+        say_field(out, answer.verdict, field_at_fault(given));
+    } else {
+        say_answer(out, role, answer);
     }
 }
 
 // Appends why a call of a role is answered as it is, or its answer where no reason is named.
-fn say_reason(out: &mut [u8; ROOM], len: usize, role: Role, p: Performed) -> usize
-    requires { len + answer_most ≤ room }
-    ensures { Wrote out.old len out.new result (reason_said role p) answer_most }
+fn say_reason(out: &mut Text, role: Role, p: Performed)
+    requires { length out.old + answer_most ≤ room }
+    ensures text { out.new ≡ out.old ++ reason_said role p }
+    ensures most { length out.new ≤ length out.old + answer_most }
 {
-    let why = p.why;
-    match why {
-        None => {
-            let answer = p.answer;
-            say_fault(out, len, role, answer)
-        }
-        Some(reasons) => say_why(out, len, reasons),
+    match p.why {
+        None => say_fault(out, role, p.answer),
+        Some(why) => say_why(out, why),
     }
 }
 
@@ -190,79 +168,44 @@ fn reasons_in(why: Option<Why>) -> Reasons
 {
     match why {
         None => record_reasons::no_reasons(),
-        Some(said) => {
-            let reasons = said.reasons;
-            reasons
-        }
+        Some(said) => said.reasons,
     }
 }
 
 // Appends what the line of a number, a call of a role, is told as.
-fn say_call(
-    out: &mut [u8; ROOM],
-    len: usize,
-    telling: Telling,
-    number: u64,
-    role: Role,
-    p: Performed,
-) -> usize
-    requires { len + answer_most ≤ room }
-    ensures { Wrote out.old len out.new result (call_said telling number role p) answer_most }
+fn say_call(out: &mut Text, telling: Telling, number: u64, role: Role, p: Performed)
+    requires { length out.old + answer_most ≤ room }
+    ensures text { out.new ≡ out.old ++ call_said telling number role p }
+    ensures most { length out.new ≤ length out.old + answer_most }
 {
     match telling {
-        Telling::Answers => {
-            let answer = p.answer;
-            say_answer(out, len, role, answer)
-        }
-        Telling::Reasons => say_reason(out, len, role, p),
+        Telling::Answers => say_answer(out, role, p.answer),
+        Telling::Reasons => say_reason(out, role, p),
         Telling::Messages(from) => {
-            if number < from {
-                return len;
+            if from <= number {
+                say_messages(out, role, p.answer, reasons_in(p.why));
             }
-            let answer = p.answer;
-            let why = p.why;
-            say_messages(out, len, role, answer, reasons_in(why))
         }
     }
 }
 
-// Appends what a line is told as.
-pub fn say(
-    out: &mut [u8; ROOM],
-    len: usize,
-    telling: Telling,
-    a: Ask,
-    number: u64,
-    b: Beside,
-    p: Performed,
-) -> usize
-    requires { len + answer_most ≤ room }
-    ensures { Wrote out.old len out.new result (line_text telling a number b p) answer_most }
+// Appends what a line is told as. What is no call is told in words alone.
+pub fn say(out: &mut Text, telling: Telling, a: Ask, number: u64, b: Beside, p: Performed)
+    requires { length out.old + answer_most ≤ room }
+    ensures text { out.new ≡ out.old ++ line_text telling a number b p }
+    ensures most { length out.new ≤ length out.old + answer_most }
 {
-    let words = in_words(telling);
+    if let Ask::Call(c) = a {
+        return say_call(out, telling, number, c.role(), p);
+    }
+    if let Telling::Messages(_) = telling {
+        return;
+    }
     match a {
-        Ask::Nothing => len,
-        Ask::NoCall => {
-            if words {
-                return say_bad(out, len, number);
-            }
-            len
-        }
-        Ask::Call(c) => say_call(out, len, telling, number, c.role(), p),
-        Ask::Interest(_) => {
-            if words {
-                let interest = b.interest;
-                return say_interest(out, len, interest);
-            }
-            len
-        }
-        Ask::Bond(_) => {
-            if words {
-                let bond = b.bond;
-                return say_bond(out, len, bond);
-            }
-            len
-        }
+        Ask::Nothing | Ask::Call(_) => {}
+        Ask::NoCall => say_bad(out, number),
+        Ask::Interest(_) => say_interest(out, b.interest),
+        Ask::Bond(_) => say_bond(out, b.bond),
     }
 }
 
@@ -273,11 +216,8 @@ fn count_asked(a: Ask, verdict: Verdict) -> u64
     ensures { result ≡ ask_count a verdict }
 {
     match a {
-        Ask::Nothing => 0,
-        Ask::NoCall => 0,
         Ask::Call(c) => count_messages(c.role(), verdict),
-        Ask::Interest(_) => 0,
-        Ask::Bond(_) => 0,
+        Ask::Nothing | Ask::NoCall | Ask::Interest(_) | Ask::Bond(_) => 0,
     }
 }
 
@@ -286,13 +226,7 @@ pub fn count(telling: Telling, a: Ask, number: u64, verdict: Verdict) -> u64
     ensures { result ≡ line_count telling a number verdict }
 {
     match telling {
-        Telling::Answers => 0,
-        Telling::Reasons => 0,
-        Telling::Messages(from) => {
-            if number < from {
-                return 0;
-            }
-            count_asked(a, verdict)
-        }
+        Telling::Messages(from) if from <= number => count_asked(a, verdict),
+        _ => 0,
     }
 }

@@ -6,8 +6,7 @@ use mathlib.Core.Bool.{Bool, true, false}
 use mathlib.Core.List.{List, [], ◌∷◌, ◌++◌, append-nil, append_assoc}
 use Prim.Native.Nat.{ℕ, ◌+◌, ◌-◌, ◌≤◌, ◌<◌}
 use native.Mathlib.Omega.{arith}
-use lib.ListN.{length, take, length-append}
-use lib.Seq.{length-take-le, length-sets}
+use lib.ListN.{length, length-append}
 use Rattle.text_evening.specs.declared.Telling.{Telling}
 use Rattle.text_protocol.specs.Answers.{answer_most}
 use Rattle.paper.specs.declared.Record.{Record}
@@ -17,7 +16,6 @@ use Rattle.text_evening.specs.Evening.{line_messages, all_messages}
 use Rattle.text_evening.specs.Streamed.{begun_stream, stream_on}
 use Rattle.text_evening.proofs.OneMore.{after_one_more, told_at}
 use Rattle.text_evening.proofs.StreamedLaws.{messages_one_more, stream_none, stream_goes_on}
-use Rattle.text_out.specs.Wrote.{appended}
 use Rattle.text_evidence.specs.declared.Written.{Written}
 use Rattle.text_evidence.specs.Evidence.{took_all, Counted, counted_none, counted_on}
 use Rattle.text_input.specs.declared.Input.{Input}
@@ -70,11 +68,10 @@ pub record Sofar (telling : Telling) (t : List Record) (b : List ℕ) (s : State
   pub lines : List (List ℕ)
   pub told : List ℕ
   pub b₀ : List ℕ
-  pub o₀ : List ℕ
-  pub run : Run telling t b₀ o₀ lines got told b s t' o
+  pub run : Run telling t b₀ lines got told b s t' o
   pub unbroken : Each lines
   pub evening : evening_of s t' ≡ after_all lines (start_evening t)
-  pub said : told ++ take s.waiting o ≡ answers telling lines (start_evening t)
+  pub said : told ++ o ≡ answers telling lines (start_evening t)
   pub delivered : Counted 0 (length got) s.input.read.all
   pub handed : Counted 0 (length told) s.told.all
   pub one_way : s.telling ≡ telling
@@ -82,22 +79,20 @@ pub record Sofar (telling : Telling) (t : List Record) (b : List ℕ) (s : State
       ≡ stream_on telling begun_stream (length (all_messages telling lines (start_evening t)))
       (answers telling lines (start_evening t))
   pub stands : Stands b s.input
-  pub room : s.waiting + answer_most ≤ bufferRoom
-  pub long : length o ≡ bufferRoom
-  pub last : s.input.left ≡ 0 → s.waiting ≡ 0
+  pub room : length o + answer_most ≤ bufferRoom
+  pub last : s.input.left ≡ 0 → o ≡ []
   pub are : Reached got lines b s
 
 -- at the start nothing is read
-pub none_yet : (telling : Telling) (t : List Record) (b o : List ℕ) → length b ≡ bufferRoom → length o ≡ bufferRoom
-    → Sofar telling t b (start_state telling) t o
+pub none_yet : (telling : Telling) (t : List Record) (b : List ℕ) → length b ≡ bufferRoom
+    → Sofar telling t b (start_state telling) t []
 unfolding unread line_length run Each after_all answers all_messages joined
-none_yet telling t b o long long-out =
+none_yet telling t b long =
     record {
       got = [];
       lines = [];
       told = [];
       b₀ = b;
-      o₀ = o;
       run = starts;
       unbroken = tt;
       evening = refl;
@@ -108,7 +103,6 @@ none_yet telling t b o long long-out =
       streamed = sym (stream_none telling);
       stands = record { low = omega arith; high = omega arith; in_b = omega arith; long = long; is = refl };
       room = omega arith;
-      long = long-out;
       last = λ h. refl;
       are = inl (refl, refl);
     }
@@ -225,30 +219,19 @@ module _ {telling : Telling} {t : List Record} {b : List ℕ} {s : State} {u : L
   behind_both true e g = goes_on g turn.next.are
   behind_both false e g = stops g e turn.next.are
 
-  behind : {end : ℕ} {q : State} → Goes turn.behind s.told end q → Behind q
+  behind : {said w : List ℕ} {q : State} → Goes turn.behind s.told said w q → Behind q
   behind (wait waiting same g) = goes_on g turn.next.are
-  behind {end} {q} (handed none hands g) = behind_both (took_all q.told) refl g
+  behind {q = q} (handed none hands g) = behind_both (took_all q.told) refl g
 
   -- ---- the output
 
   abbrev text : List ℕ
   text = answer s.telling turn.line (evening_of s u)
 
-  ends_in : turn.end ≤ length o
-  ends_in = omega (arith, turn.wrote.most, so.room, so.long)
-
-  -- the answer stands behind those that wait
-  stands_behind : take turn.end o' ≡ take s.waiting o ++ text
-  stands_behind = appended turn.wrote ends_in
-
-  long_still : length o' ≡ bufferRoom
-  long_still = rw turn.wrote.bytes (length-sets o s.waiting text ∙ so.long)
-
   -- all that was told so far, and the answer, are the answers to the lines
-  said_so : so.told ++ take turn.end o' ≡ answers telling all start
+  said_so : so.told ++ (o ++ text) ≡ answers telling all start
   said_so =
-      ap (λ (z : List ℕ). so.told ++ z) stands_behind
-      ∙ sym (append_assoc so.told (take s.waiting o) text)
+      sym (append_assoc so.told o text)
       ∙ ap (λ (z : List ℕ). z ++ text) so.said
       ∙ ap (λ (z : List ℕ). answers telling so.lines start ++ z) text_is
       ∙ sym (answers_one telling so.lines turn.line start)
@@ -269,34 +252,29 @@ module _ {telling : Telling} {t : List Record} {b : List ℕ} {s : State} {u : L
       ))
 
   -- what is known of the answers behind the turn: they wait on, or they were handed to `write`
-  pub record SaidSofar (told : List ℕ) (q : State) : Type 0 where
-    pub said : told ++ take q.waiting o' ≡ answers telling all start
+  pub record SaidSofar (told w : List ℕ) (q : State) : Type 0 where
+    pub said : told ++ w ≡ answers telling all start
     pub handed : Counted 0 (length told) q.told.all
 
-  told_on : {i : Input} {end : ℕ} {q : State} → end ≡ turn.end → (g : Goes i s.told end q)
-      → SaidSofar (so.told ++ handed_of g o') q
-  told_on {i} {end} {q} e (wait waiting same g) =
+  told_on : {i : Input} {said w : List ℕ} {q : State} → said ≡ o ++ text → (g : Goes i s.told said w q)
+      → SaidSofar (so.told ++ handed_of g) w q
+  told_on e (wait waits same g) =
       record {
-        said = rw (append-nil so.told, waiting, e) said_so;
+        said = rw (append-nil so.told, waits, e) said_so;
         handed = rw (append-nil so.told, same) so.handed;
       }
-  told_on {i} {end} {q} e (handed none hands g) =
+  told_on {said = said} e (handed none hands g) =
       record {
-        said = rw (none, append-nil (so.told ++ take end o'), e) said_so;
-        handed = rw counts (counted_on _ _ _ _ _ so.handed hands.count);
+        said = rw (none, append-nil (so.told ++ said), e) said_so;
+        handed = rw (length-append so.told said) (counted_on _ _ _ _ _ so.handed hands.count);
       }
-    where
-      counts : length (so.told ++ take end o') ≡ length so.told + end
-      counts =
-          length-append so.told (take end o')
-          ∙ ap (λ (z : ℕ). length so.told + z) (length-take-le end o' (omega (arith, e, ends_in, long_still, so.long)))
 
   -- ---- the turn
 
   onward : Behind r
   onward = behind turn.goes
 
-  output : SaidSofar (so.told ++ handed_of turn.goes o') r
+  output : SaidSofar (so.told ++ handed_of turn.goes) o' r
   output = told_on refl turn.goes
 
   pub one_more : Sofar telling t b' r u' o'
@@ -304,9 +282,8 @@ module _ {telling : Telling} {t : List Record} {b : List ℕ} {s : State} {u : L
       record {
         got = all_got;
         lines = all;
-        told = so.told ++ handed_of turn.goes o';
+        told = so.told ++ handed_of turn.goes;
         b₀ = so.b₀;
-        o₀ = so.o₀;
         run = goes so.run more turn;
         unbroken = each;
         evening = turn.evening ∙ ap (after turn.line) so.evening ∙ sym (after_one_more so.lines turn.line
@@ -318,7 +295,6 @@ module _ {telling : Telling} {t : List Record} {b : List ℕ} {s : State} {u : L
         streamed = streamed_so;
         stands = onward.stands;
         room = turn.room;
-        long = long_still;
         last = turn.last;
         are = onward.are;
       }
@@ -351,10 +327,8 @@ module _ {telling : Telling} {t : List Record} {b : List ℕ} {s : State} {u : L
         lines = so.lines;
         told = so.told;
         b₀ = so.b₀;
-        o₀ = so.o₀;
         b = b;
-        o = o;
-        run = so.run;
+        run = rw (so.last over) at so.run;
         cut = cut so.are;
         evening = so.evening;
         said = all_said;
@@ -363,5 +337,4 @@ module _ {telling : Telling} {t : List Record} {b : List ℕ} {s : State} {u : L
         one_way = so.one_way;
         streamed = so.streamed;
         over = over;
-        none_waits = so.last over;
       }

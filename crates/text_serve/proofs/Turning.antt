@@ -1,7 +1,7 @@
 -- The two halves of a turn and the call between them are one turn.
 use mathlib.Core.Path.{◌≡◌, refl, ap, subst, ◌∙◌}
 use mathlib.Core.Bool.{Bool}
-use mathlib.Core.List.{List}
+use mathlib.Core.List.{List, ◌++◌}
 use Prim.Native.Nat.{ℕ}
 use lib.IntN.{ℤ}
 use lib.ListN.{length, take, drop}
@@ -9,13 +9,11 @@ use Rattle.paper.specs.declared.Record.{Record}
 use Rattle.text_protocol.specs.declared.Ask.{Ask}
 use Rattle.text_protocol.specs.declared.Ask.TheVariants as ask
 use Rattle.text_protocol.specs.declared.Performed.{Performed}
-use Rattle.text_protocol.specs.Answers.{answer_most}
 use Rattle.text_protocol.specs.Calls.{Deed, figures_behind, deed_of, deed_asked}
 use Rattle.text_protocol.specs.Line.{meaning}
 use Rattle.text_protocol.specs.Names.{evaluate_count, evaluate_names}
 use Rattle.text_evening.specs.Evening.{table_after, number_after, after, answer, line_messages}
 use Rattle.text_evening.specs.Streamed.{stream_on}
-use Rattle.text_out.specs.Wrote.{Wrote}
 use Rattle.text_deed.specs.Deeds.{line_text, line_count}
 use Rattle.text_evidence.specs.declared.Written.{Written}
 use Rattle.text_turn.specs.declared.State.{State}
@@ -87,11 +85,10 @@ module _ (t t' : List Record) {b : List ℕ} {s : State} {b' : List ℕ} {p : Pr
       (answer s.telling heard.line (evening_of s t))
   stream_is = told.stream ∙ rw (count_is, text_is, heard.telling, heard.stream)
 
-  wrote : Wrote o s.waiting o' told.end (answer s.telling heard.line (evening_of s t)) answer_most
-  wrote =
-      subst (λ (n : ℕ). Wrote o n o' told.end (answer s.telling heard.line (evening_of s t)) answer_most)
-      heard.waiting
-      (subst (λ (u : List ℕ). Wrote o p.state.waiting o' told.end u answer_most) text_is told.wrote)
+  goes_as : Goes p.state.input s.told (o ++ answer s.telling heard.line (evening_of s t)) o' r
+  goes_as =
+      subst (λ (w : Written). Goes p.state.input w (o ++ answer s.telling heard.line (evening_of s t)) o' r) heard.told
+      (subst (λ (u : List ℕ). Goes p.state.input p.state.told (o ++ u) o' r) text_is told.goes)
 
   -- A LINE THAT IS HEARD, PERFORMED AND ANSWERED IS ONE TURN
   pub turned : Turns b s t o b' r t' o'
@@ -101,9 +98,7 @@ module _ (t t' : List Record) {b : List ℕ} {s : State} {b' : List ℕ} {p : Pr
         behind = p.state.input;
         next = heard.next;
         evening = evening_is;
-        end = told.end;
-        wrote = wrote;
-        goes = subst (λ (w : Written). Goes p.state.input w told.end r) heard.told told.goes;
+        goes = goes_as;
         telling = told.telling ∙ heard.telling;
         stream = stream_is;
         room = told.room;

@@ -1,5 +1,5 @@
 -- A turn of the evening on a lent table, and every turn of standard input.
-use Rattle.std.specs.Prelude.{◌≡◌, ◌⊎◌, Bool, true, false, ◌&&◌, List, [], ◌∷◌, ◌++◌, ℕ, ◌+◌, ◌≤◌, ◌<◌, length, take}
+use Rattle.std.specs.Prelude.{◌≡◌, ◌⊎◌, Bool, true, false, ◌&&◌, List, [], ◌∷◌, ◌++◌, ℕ, ◌+◌, ◌≤◌, ◌<◌, length}
 use Rattle.paper.specs.declared.Record.{Record}
 use Rattle.paper_messages.specs.Broadcast.{sent}
 use Rattle.paper_streams.specs.Streams.{end_message}
@@ -9,7 +9,6 @@ use Rattle.text_bytes.specs.Bytes.{line_feed, room}
 use Rattle.text_evening.specs.Evening.{Evening, start_evening, after, answer, after_all, answers, last_number}
 use Rattle.text_evening.specs.Evening.{line_messages, all_messages}
 use Rattle.text_evening.specs.Streamed.{begun_stream, stream_on}
-use Rattle.text_out.specs.Wrote.{Wrote}
 use Rattle.text_input.specs.declared.Input.{Input}
 use Rattle.text_evidence.specs.declared.Delivered.{Delivered}
 use Rattle.text_evidence.specs.declared.Written.{Written}
@@ -26,45 +25,43 @@ evening_of s t = record { number = s.number; kept = s.kept; table = t }
 
 -- ---- one turn
 
--- ONE TURN, from the buffer b, the state s, the table t and the answers o: `line` is the next line of the input,
+-- ONE TURN, from the buffer b, the state s, the table t and the answers o that wait: `line` is the next line of the input,
 -- whatever pieces `read` delivered it in, and `behind` is the input behind it. The evening behind it is the one that
--- the definition has, and so is its answer, told in the way that the state has: it stands behind those that wait, up to
--- `end`, and a stream of messages is carried on over them. Answers wait only while a whole line stands in the buffer,
--- and none waits where no line is left to hear
+-- the definition has, and so is its answer, told in the way that the state has: it stands behind those that wait, and a
+-- stream of messages is carried on over it. Answers wait only while a whole line stands in the buffer, and none waits
+-- where no line is left to hear
 pub record Turns (b : List ℕ) (s : State) (t : List Record) (o b' : List ℕ) (r : State) (t' : List Record) (o' : List ℕ)
     : Type 0 where
   pub line : List ℕ
   pub behind : Input
   pub next : Next b s.input b' behind line
   pub evening : evening_of r t' ≡ after line (evening_of s t)
-  pub end : ℕ
-  pub wrote : Wrote o s.waiting o' end (answer s.telling line (evening_of s t)) answer_most
-  pub goes : Goes behind s.told end r
+  pub goes : Goes behind s.told (o ++ answer s.telling line (evening_of s t)) o' r
   pub telling : r.telling ≡ s.telling
   pub stream : r.stream
       ≡ stream_on s.telling s.stream (length (line_messages s.telling line (evening_of s t)))
       (answer s.telling line (evening_of s t))
-  pub room : r.waiting + answer_most ≤ room
-  pub prompt : r.input.len ≤ r.input.end → r.waiting ≡ 0
-  pub last : r.input.left ≡ 0 → r.waiting ≡ 0
+  pub room : length o' + answer_most ≤ room
+  pub prompt : r.input.len ≤ r.input.end → o' ≡ []
+  pub last : r.input.left ≡ 0 → o' ≡ []
 
--- what a turn hands to `write`, of the answers o: nothing where they wait on
-abbrev pub handed_of : {i : Input} {told : Written} {end : ℕ} {r : State} → Goes i told end r → (o : List ℕ) → List ℕ
-handed_of (wait waiting same goes_on) o = []
-handed_of {i} {told} {end} (handed none hands goes_on) o = take end o
+-- what a turn hands to `write`: nothing where the answers wait on
+abbrev pub handed_of : {i : Input} {told : Written} {said o : List ℕ} {r : State} → Goes i told said o r → List ℕ
+handed_of (wait waiting same goes_on) = []
+handed_of {said = said} (handed none hands goes_on) = said
 
 -- ---- every turn
 
--- TURNS ONE AFTER THE OTHER, from the table t, the buffer b₀ and the answers o₀ on: each starts where the last one
+-- TURNS ONE AFTER THE OTHER, from the table t and the buffer b₀ on, where no answer waits: each starts where the last one
 -- left the buffer, the state, the table and the answers. `lines` are the lines, `got` is what `read` delivered and
 -- `told` what was handed to `write`, each in order
-pub data Run (telling : Telling) (t : List Record) (b₀ o₀ : List ℕ)
+pub data Run (telling : Telling) (t : List Record) (b₀ : List ℕ)
     : (lines : List (List ℕ)) (got told b : List ℕ) → State → List Record → (o : List ℕ) → Type 0 where
-  starts : Run telling t b₀ o₀ [] [] [] b₀ (start_state telling) t o₀
+  starts : Run telling t b₀ [] [] [] b₀ (start_state telling) t []
   goes : {lines : List (List ℕ)} {got told b : List ℕ} {s : State} {u : List Record} {o b' : List ℕ} {r : State}
-      {u' : List Record} {o' : List ℕ} → Run telling t b₀ o₀ lines got told b s u o → 0 < s.input.left
+      {u' : List Record} {o' : List ℕ} → Run telling t b₀ lines got told b s u o → 0 < s.input.left
       → (x : Turns b s u o b' r u' o')
-      → Run telling t b₀ o₀ (lines ++ x.line ∷ []) (got ++ x.next.got) (told ++ handed_of x.goes o') b' r u' o'
+      → Run telling t b₀ (lines ++ x.line ∷ []) (got ++ x.next.got) (told ++ handed_of x.goes) b' r u' o'
 
 -- no line has a line feed in it
 unfoldable pub Each : List (List ℕ) → Type 0
@@ -95,17 +92,15 @@ pub record Cut (got : List ℕ) (lines : List (List ℕ)) (read : Delivered) (to
 -- EVERY TURN, up to where no line is left to hear: `got` is what `read` delivered, in order, and `lines` are its lines.
 -- The evening at the end is the one after these lines, and what was handed to `write`, in order, are the answers to
 -- them, told in one way: with their answers (`evening`), with reasons (`why`), or with messages (`broadcast`), whose
--- stream is carried on from `begin` over all of them. The evidence counts as many bytes as were delivered, and as many
+-- stream is carried on from `begin` over all of them; no answer waits. The evidence counts as many bytes as were delivered, and as many
 -- as were handed over
 pub record Serves (telling : Telling) (t : List Record) (r : State) (t' : List Record) : Type 0 where
   pub got : List ℕ
   pub lines : List (List ℕ)
   pub told : List ℕ
   pub b₀ : List ℕ
-  pub o₀ : List ℕ
   pub b : List ℕ
-  pub o : List ℕ
-  pub run : Run telling t b₀ o₀ lines got told b r t' o
+  pub run : Run telling t b₀ lines got told b r t' []
   pub cut : Cut got lines r.input.read r.told
   pub evening : evening_of r t' ≡ after_all lines (start_evening t)
   pub said : told ≡ answers telling lines (start_evening t)
@@ -116,7 +111,6 @@ pub record Serves (telling : Telling) (t : List Record) (r : State) (t' : List R
       ≡ stream_on telling begun_stream (length (all_messages telling lines (start_evening t)))
       (answers telling lines (start_evening t))
   pub over : r.input.left ≡ 0
-  pub none_waits : r.waiting ≡ 0
 
 -- ---- the end of a stream
 

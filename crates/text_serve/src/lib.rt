@@ -27,6 +27,7 @@ use text_broadcast::{begin_message, end_message};
 use text_bytes::ROOM;
 use text_evening::Telling;
 use text_evidence::Written;
+use text_out::Text;
 use text_protocol::{Ask, KEPT, Performed};
 use text_turn::after::tell;
 use text_turn::{Prepared, State, prepare, rows_of, start};
@@ -138,11 +139,11 @@ pub fn step<'a, 'b>(
     t: &'a mut [Record],
     buf: &'a mut [u8; ROOM],
     xs: &'b mut [i64; KEPT],
-    out: &'a mut [u8; ROOM],
+    out: &'a mut Text,
     places: &'a mut [usize; PLACES],
     s: State,
 ) -> State
-    requires { (Stands buf.old s.input) × (s.waiting + answer_most ≤ room) × Sound t.old places.old }
+    requires { (Stands buf.old s.input) × (length out.old + answer_most ≤ room) × Sound t.old places.old }
     ensures { (Turns buf.old s t.old out.old
         buf.new result t.new out.new) × Sound t.new places.new }
 {
@@ -171,7 +172,7 @@ pub fn serve(stdin: Stdin, stdout: Stdout, t: &mut [Record], telling: Telling) -
 {
     let mut buf = text_evidence::large_buffer();
     let mut xs = no_numbers();
-    let mut out = text_evidence::large_buffer();
+    let mut out = Text::new();
     let mut places = no_places();
     let mut s = start(telling);
     while s.input.left > 0 {
@@ -199,10 +200,7 @@ pub fn fresh() -> [Record; Record::SLOTS_MOST]
 
 // The line that was heard last, by the number of the next one.
 pub fn last_heard(next: u64) -> u64 {
-    if next < 2 {
-        return 1;
-    }
-    next - 1
+    next.saturating_sub(1).max(1)
 }
 
 // ---- what begins and ends a stream of messages
@@ -211,9 +209,9 @@ pub fn last_heard(next: u64) -> u64 {
 fn send(stdout: Stdout, m: Message, before: Written) -> Written
     ensures { Hands (length (sent m)) before result }
 {
-    let mut out = text_evidence::large_buffer();
-    let n = text_broadcast::send(&mut out, 0, m);
-    text_evidence::hand(stdout, &out, n, before)
+    let mut out = Text::new();
+    text_broadcast::send(&mut out, m);
+    text_evidence::hand(stdout, out.as_slice(), out.length(), before)
 }
 
 // `begin`, before every other message.
@@ -228,18 +226,13 @@ fn begun(stdout: Stdout) -> Written
 fn ended(stdout: Stdout, s: State) -> Written
     ensures { Closes s result }
 {
-    let told = s.told;
-    let input = s.input;
-    let read = input.read;
-    let telling = s.telling;
-    let stream = s.stream;
-    if !(told.took_all() & read.is_well()) {
-        return told;
+    if !(s.told.took_all() & s.input.read.is_well()) {
+        return s.told;
     }
-    match telling {
-        Telling::Answers => told,
-        Telling::Reasons => told,
-        Telling::Messages(_) => send(stdout, end_message(stream), told),
+    match s.telling {
+        Telling::Answers => s.told,
+        Telling::Reasons => s.told,
+        Telling::Messages(_) => send(stdout, end_message(s.stream), s.told),
     }
 }
 
@@ -260,13 +253,10 @@ fn say_failed(rt: HostRuntime, telling: Telling, written: bool, line: u64) {
 // that failed is the last line that was heard.
 fn finish(rt: HostRuntime, s: State) {
     let told = ended(rt.stdout(), s);
-    let input = s.input;
-    let read = input.read;
-    if told.took_all() & read.is_well() {
+    if told.took_all() & s.input.read.is_well() {
         return;
     }
-    let telling = s.telling;
-    say_failed(rt, telling, told.took_all(), last_heard(s.number));
+    say_failed(rt, s.telling, told.took_all(), last_heard(s.number));
 }
 
 // A table by value, lent once to every line of standard input: `evening`, `why` and `broadcast` are this, told in three

@@ -33,7 +33,6 @@ pub prepared : (b : List ℕ) (s : State) (b' : List ℕ) (h : Heard) (xs : List
             input = h.input;
             number = s.number;
             kept = w.kept;
-            waiting = s.waiting;
             told = s.told;
             telling = s.telling;
             stream = s.stream;
@@ -58,7 +57,6 @@ prepared b s b' h xs w asked p q e =
       asked = e;
       telling = refl;
       number = refl;
-      waiting = refl;
       told = refl;
       there = p.there;
       stream = refl;

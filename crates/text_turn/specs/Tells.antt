@@ -1,10 +1,9 @@
 -- The second half of a turn, after the table is asked.
-use Rattle.std.specs.Prelude.{◌≡◌, List, ℕ, ◌+◌, ◌≤◌}
+use Rattle.std.specs.Prelude.{◌≡◌, List, [], ◌++◌, ℕ, ◌+◌, ◌≤◌, length}
 use Rattle.text_protocol.specs.declared.Performed.{Performed}
 use Rattle.text_evening.specs.Evening.{number_after}
 use Rattle.text_evening.specs.Streamed.{stream_on}
 use Rattle.paper.specs.Lists.{pick}
-use Rattle.text_out.specs.Wrote.{Wrote}
 use Rattle.text_evidence.specs.declared.Written.{Written}
 use Rattle.text_evidence.specs.Evidence.{took_all, Hands}
 use Rattle.text_input.specs.declared.Input.{Input}
@@ -18,23 +17,22 @@ use Rattle.text_bytes.specs.Bytes.{room}
 abbrev pub halted : Input → Input
 halted i = record { at = i.at; end = i.end; len = i.len; left = 0; read = i.read }
 
--- WHAT BECOMES OF THE ANSWERS up to `end`: they wait on, and nothing is written; or all of them are handed to `write`,
--- by its evidence. The input goes on as it was, but where not all of them were taken no line more is heard
-pub data Goes (i : Input) (told : Written) (end : ℕ) (r : State) : Type 0 where
-  wait : r.waiting ≡ end → r.told ≡ told → r.input ≡ i → Goes i told end r
-  handed : r.waiting ≡ 0 → Hands end told r.told → r.input ≡ pick (took_all r.told) i (halted i)
-      → Goes i told end r
+-- WHAT BECOMES OF THE ANSWERS `said`, where o wait behind them: they wait on, and nothing is written; or all of them are
+-- handed to `write`, by its evidence, and none waits. The input goes on as it was, but where not all of them were taken
+-- no line more is heard
+pub data Goes (i : Input) (told : Written) (said o : List ℕ) (r : State) : Type 0 where
+  wait : o ≡ said → r.told ≡ told → r.input ≡ i → Goes i told said o r
+  handed : o ≡ [] → Hands (length said) told r.told → r.input ≡ pick (took_all r.told) i (halted i)
+      → Goes i told said o r
 
--- AFTER THE TABLE IS ASKED: the answer is appended behind those that wait, up to `end`. They are handed over where the
--- next line has to be waited for, and where no line is left to hear
-pub record Tells (b : List ℕ) (p : Prepared) (a : Performed) (b' : List ℕ) (r : State) : Type 0 where
-  pub end : ℕ
-  pub wrote : Wrote b p.state.waiting b' end
-      (line_text p.state.telling p.ask p.state.number p.beside a) answer_most
-  pub goes : Goes p.state.input p.state.told end r
-  pub room : r.waiting + answer_most ≤ room
-  pub prompt : r.input.len ≤ r.input.end → r.waiting ≡ 0
-  pub last : r.input.left ≡ 0 → r.waiting ≡ 0
+-- AFTER THE TABLE IS ASKED: the answer is appended behind those that wait, o. They are handed over where the next line
+-- has to be waited for, and where no line is left to hear; o' wait then
+pub record Tells (o : List ℕ) (p : Prepared) (a : Performed) (o' : List ℕ) (r : State) : Type 0 where
+  pub goes : Goes p.state.input p.state.told
+      (o ++ line_text p.state.telling p.ask p.state.number p.beside a) o' r
+  pub room : length o' + answer_most ≤ room
+  pub prompt : r.input.len ≤ r.input.end → o' ≡ []
+  pub last : r.input.left ≡ 0 → o' ≡ []
   pub kept : r.kept ≡ p.state.kept
   pub telling : r.telling ≡ p.state.telling
   pub number : r.number ≡ number_after p.state.number

@@ -22,12 +22,11 @@ pub record Prepares (b : List ℕ) (s : State) (b' : List ℕ) (r : Prepared) (x
   pub asked : r.asked ≡ asks_why s.telling
   pub telling : r.state.telling ≡ s.telling
   pub number : r.state.number ≡ s.number
-  pub waiting : r.state.waiting ≡ s.waiting
   pub told : r.state.told ≡ s.told
   pub there : StandsAt b' r.from r.to line
   pub stream : r.state.stream ≡ s.stream
 
--- at the start nothing is read, nothing is kept and nothing waits, the first line is the next, and of a stream `begin` is
+-- at the start nothing is read and nothing is kept, the first line is the next, and of a stream `begin` is
 -- told; `telling` is how lines are told, from the start to the end
 abbrev pub start_state : Telling → State
 start_state telling =
@@ -35,7 +34,6 @@ start_state telling =
       input = record { at = 0; end = 0; len = 0; left = last_number; read = unread };
       number = 1;
       kept = none_kept;
-      waiting = 0;
       told = unwritten;
       telling = telling;
       stream = begun_stream;

@@ -20,14 +20,12 @@ use text_input::{Input, hear};
 use text_protocol::{Ask, Kept, evaluate_place};
 
 // What goes on from line to line: what is left of the input, the number of the next line, what is kept of the interest
-// lines, how many bytes of answers wait to be written, the evidence of what was handed to `write`, how lines are told,
-// and how far the stream of messages is told.
+// lines, the evidence of what was handed to `write`, how lines are told, and how far the stream of messages is told.
 #[derive(Clone, Copy)]
 pub struct State {
     pub input: Input,
     pub number: u64,
     pub kept: Kept,
-    pub waiting: usize,
     pub told: Written,
     pub telling: Telling,
     pub stream: Stream,
@@ -71,7 +69,6 @@ pub fn prepare(stdin: Stdin, buf: &mut [u8], xs: &mut [i64], s: State) -> Prepar
             input,
             number: s.number,
             kept,
-            waiting: s.waiting,
             told,
             telling,
             stream,
@@ -111,7 +108,6 @@ pub fn start(telling: Telling) -> State
         },
         number: 1,
         kept: text_call::kept::none(),
-        waiting: 0,
         told: text_evidence::unwritten(),
         telling,
         stream: Stream {

@@ -1,14 +1,9 @@
--- `text_bond::say_worked` meets its contract: P TENTATIVE AGE S1 S2 S3, and the limits of each term.
-use native.Mathlib.Omega.{arith}
-use Rattle.text_protocol.specs.Answers.{bond_numbers}
-use Rattle.text_out.specs.Told.{both}
-use Rattle.text_answer.specs.Answered.{answered}
+-- `say_worked` meets its contract: P TENTATIVE AGE S1 S2 S3, and the limits of each term.
+use Rattle.text_bond.proofs.BondTold.{bond_told}
 use Rattle.text_bond.proofs.say_worked.Goals as goal
 
-pub returns : goal.returns
-unfolding bond_numbers
-returns c =
-    answered _ (omega arith) c.put_number-n.ensures
-    (both (both (both (both c.put_figures-n.ensures c.put_rates-n.ensures)
-    c.put_limits-n.ensures) c.put_limits-n-2.ensures) c.put_limits-n-3.ensures)
-    c.put_byte.ensures
+pub returns-clause-text : goal.returns-clause-text
+returns-clause-text c =
+    bond_told c.args.a c.args.out.now _ _ _ _ _ _ _ c.put_number.ensures.text c.put_figures.ensures.text
+    c.put_rates.ensures.text c.put_limits.ensures.text c.put_limits-2.ensures.text c.put_limits-3.ensures.text
+    c.put_byte.ensures.text

@@ -6,7 +6,7 @@ use Rattle.text_serve.proofs.serve.Goals as goal
 
 pub loop-s-init : goal.loop-s-init
 loop-s-init c = (
-  rw c.start-s.ensures (none_yet _ _ _ _ (sym c.large_buffer-buf.ensures) (sym c.large_buffer-out.ensures)),
+  rw (c.start-s.ensures, c.new-out.ensures) (none_yet _ _ _ (sym c.large_buffer-buf.ensures)),
   rw c.no_places-places.ensures (none_sound _),
 )
 

@@ -1,22 +1,14 @@
--- `text_answer::interest_line::say_worked` meets its contract: LOWER UPPER, and the figures of each key maturity.
-use Rattle.text_out.specs.Told.{both}
-use Rattle.text_answer.specs.Answered.{answered}
-use Rattle.text_protocol.specs.Answers.{interest_numbers}
-use native.Mathlib.Omega.{arith}
+-- `say_worked` meets its contract: LOWER UPPER, and the figures of each key maturity.
 use mir.Facts.{to_z-of_z}
 use mir.Syntax.{w64}
+use native.Mathlib.Omega.{arith}
+use Rattle.text_answer.proofs.Told.{interest_told}
 use Rattle.text_answer.proofs.interest_line.say_worked.Goals as goal
 
-pub returns : goal.returns
-unfolding interest_numbers
-returns c =
+pub returns-clause-text : goal.returns-clause-text
+returns-clause-text c =
     let a = c.args.a in
-    let low = to_z-of_z {w = w64} {z = a.pair.lower} (record {
-      sfits = c.struct_told-1.given.1.0.1;
-    }) in
-    let high = to_z-of_z {w = w64} {z = a.pair.upper} (record {
-      sfits = c.struct_told-2-1.given.1.1.0.1;
-    }) in
-    let band = both (rw low at c.put_next_signed-n.ensures) (rw high at c.put_next_signed-n-2.ensures) in
-    answered _ (omega arith) c.put_number-n.ensures
-    (both band c.put_maturities-n.ensures) c.put_byte.ensures
+    let low = to_z-of_z {w = w64} {z = a.pair.lower} (record { sfits = omega arith }) in
+    let high = to_z-of_z {w = w64} {z = a.pair.upper} (record { sfits = omega arith }) in
+    interest_told c.args.a c.args.out.now _ _ _ _ _ c.put_number.ensures.text (rw low at c.put_next_signed.ensures.text)
+    (rw high at c.put_next_signed-2.ensures.text) c.put_maturities.ensures.text c.put_byte.ensures.text

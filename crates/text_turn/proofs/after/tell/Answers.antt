@@ -1,58 +1,48 @@
--- `text_turn::after::tell` meets its contract: tells the answer to a line.
+-- `tell` meets its contract: all that waits is handed over where it is due, and waits on where it is not.
 use mathlib.Core.Path.{refl, ◌∙◌}
 use native.Mathlib.Omega.{arith}
 use Rattle.text_turn.specs.Tells.{wait, handed}
-use Rattle.text_turn.proofs.WaysOut.{a_line_is_whole, a_line_is_left, between}
+use Rattle.text_turn.proofs.WaysOut.{a_line_is_whole, a_line_is_left, told_behind}
 use Rattle.text_turn.proofs.after.tell.Goals as goal
+use Rattle.text_turn.proofs.after.tell.Goals.{then-is_due, else-is_due}
 
-pub carried-stream-requires : goal.carried-stream-requires
-carried-stream-requires c =
-    let said = c.say-n.ensures in (
-      omega (arith, said.long),
-      omega (arith, said.most),
-    )
-
--- all that waited is handed over
-pub returns-then-is_due : goal.returns-then-is_due
-returns-then-is_due c =
-    let said = c.say-n in
-    record {
-      end = said.result;
-      wrote = said.ensures;
-      goes = handed refl c.hand-told.ensures (rw (← c.took_all-all.ensures) c.stopped.ensures);
-      room = omega arith;
-      prompt = λ h. refl;
-      last = λ h. refl;
-      kept = refl;
-      telling = refl;
-      number = c.number_after-number.ensures;
-      stream =
-          c.carried-stream.ensures
-          ∙ rw (
-            c.count-more.ensures,
-            between said.ensures (omega (arith, said.ensures.most)),
-          );
-    }
-
--- all of it waits on
 pub returns : goal.returns
 returns c =
-    let said = c.say-n in
-    let on = c.is_due.ensures c.if-is_due.false in
+    let s = c.args.p.state in
+    let said = c.say.ensures.text in
     record {
-      end = said.result;
-      wrote = said.ensures;
-      goes = wait refl refl refl;
-      room = on.0;
-      prompt = a_line_is_whole on.1;
-      last = a_line_is_left on.2;
+      goes =
+          elim c.if-is_due.branch [
+            | then-is_due w ↦
+                handed (w.out-is ∙ w.clear.ensures)
+                (rw (w.told-is, ← said, ← w.length-then-is_due.ensures.length) w.hand-told.ensures)
+                (rw (w.input-is, w.told-is, ← w.took_all.ensures) w.stopped-input.ensures)
+            | else-is_due w ↦ wait (w.out-is ∙ said) w.told-is w.input-is
+          ];
+      room =
+          elim c.if-is_due.branch [
+            | then-is_due w ↦ rw (w.out-is, w.clear.ensures) (omega arith)
+            | else-is_due w ↦ rw (w.out-is, ← c.length.ensures.length) (c.is_due.ensures w.if-is_due.false).0
+          ];
+      prompt =
+          elim c.if-is_due.branch [
+            | then-is_due w ↦ λ h. w.out-is ∙ w.clear.ensures
+            | else-is_due w ↦
+                λ h. a_line_is_whole (c.is_due.ensures w.if-is_due.false).1 (rw w.input-is at h)
+          ];
+      last =
+          elim c.if-is_due.branch [
+            | then-is_due w ↦ λ h. w.out-is ∙ w.clear.ensures
+            | else-is_due w ↦
+                λ h. a_line_is_left (c.is_due.ensures w.if-is_due.false).2 (rw w.input-is at h)
+          ];
       kept = refl;
       telling = refl;
-      number = c.number_after-number.ensures;
+      number = c.number_after.ensures;
       stream =
           c.carried-stream.ensures
           ∙ rw (
             c.count-more.ensures,
-            between said.ensures (omega (arith, said.ensures.most)),
+            told_behind _ _ c.as_slice.result.now _ (c.as_slice.ensures.bytes ∙ said) c.length-from.ensures.length,
           );
     }
