@@ -1,4 +1,4 @@
--- The answer by what is refused: 6, then 14, else the figures, for which nothing more is asked.
+-- What is refused: 6, then 14; and what is not has the ranges that the rules ask for.
 use mathlib.Core.Path.{◌≡◌}
 use mathlib.Core.Bool.{true, false, ◌&&◌}
 use mathlib.Core.List.{List}
@@ -6,10 +6,9 @@ use lib.Dec.{ltb}
 use lib.IntN.{ℤ}
 use borrow.Author.Tests.{ltb-true}
 use Rattle.paper.specs.declared.Interest.{Interest}
-use Rattle.paper.specs.declared.Verdict.TheVariants.{OutOfRange, NotAscending}
+use Rattle.paper.specs.declared.Verdict.TheVariants.{Done, OutOfRange, NotAscending}
 use Rattle.paper_interest.specs.Interest.{valid_interest, valid_keys, maturities_of, strictly_ascending, interest_checks}
-use Rattle.paper_interest.specs.Interest.{refused_interest, accepted_interest, interest_answer}
-use Rattle.paper.specs.Verdicts.{is_done, first_of}
+use Rattle.paper.specs.Verdicts.{first_of}
 use Rattle.paper.proofs.Logic.{and_left, and_right}
 use Rattle.paper_interest.proofs.InterestRanges.{valid_interest_in_range}
 use Rattle.interest_maturities.specs.Pair.{PairRange}
@@ -27,19 +26,19 @@ module _ (i : Interest) (numbers : List ℤ) where
         order = ltb-true i.ym i.yn (and_right (strictly_ascending (maturities_of numbers)) (ltb i.ym i.yn) o);
       }
 
-  pub answers_out_of_range : (valid_interest i && valid_keys numbers) ≡ false
-      → refused_interest OutOfRange ≡ interest_answer i numbers
-  unfolding interest_answer interest_checks first_of is_done
-  answers_out_of_range e = rw e
+  pub judged_out_of_range : (valid_interest i && valid_keys numbers) ≡ false
+      → first_of (interest_checks i numbers) ≡ OutOfRange
+  unfolding interest_checks first_of
+  judged_out_of_range e = rw e
 
-  pub answers_not_ascending : (valid_interest i && valid_keys numbers) ≡ true
+  pub judged_not_ascending : (valid_interest i && valid_keys numbers) ≡ true
       → (strictly_ascending (maturities_of numbers) && ltb i.ym i.yn) ≡ false
-      → refused_interest NotAscending ≡ interest_answer i numbers
-  unfolding interest_answer interest_checks first_of is_done
-  answers_not_ascending e o = rw (e, o)
+      → first_of (interest_checks i numbers) ≡ NotAscending
+  unfolding interest_checks first_of
+  judged_not_ascending e o = rw (e, o)
 
-  pub answers_figures : (valid_interest i && valid_keys numbers) ≡ true
+  pub judged_done : (valid_interest i && valid_keys numbers) ≡ true
       → (strictly_ascending (maturities_of numbers) && ltb i.ym i.yn) ≡ true
-      → accepted_interest i (maturities_of numbers) ≡ interest_answer i numbers
-  unfolding interest_answer interest_checks first_of is_done
-  answers_figures e o = rw (e, o)
+      → first_of (interest_checks i numbers) ≡ Done
+  unfolding interest_checks first_of
+  judged_done e o = rw (e, o)

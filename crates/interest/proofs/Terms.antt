@@ -3,22 +3,21 @@
 use mathlib.Core.Path.{◌≡◌, sym, ap, ◌∙◌}
 use mathlib.Core.Bool.{true}
 use mathlib.Core.List.{List}
-use Prim.Native.Nat.{ℕ, ◌+◌, ◌%◌, ◌≤◌, ◌<◌}
+use Prim.Native.Nat.{ℕ, ◌≤◌, ◌<◌}
 use native.Mathlib.Omega.{arith}
-use lib.Dec.{eqb}
 use lib.IntN.{ℤ, pos, sub_ℕ}
-use lib.ListN.{length}
-use borrow.Author.Tests.{eq-eqb, ne_eqb}
 use Rattle.paper.specs.declared.Interest.{Interest}
 use Rattle.paper.specs.declared.Maturity.{Maturity}
-use Rattle.paper.specs.Numbers.{key_numbers}
-use Rattle.paper_interest.specs.Interest.{key_at, valid_keys, maturities_of, upward, downward, maturity_figures, figure_at}
+use Rattle.paper_interest.specs.Interest.{valid_keys, maturities_of, upward, downward, maturity_figures}
 use Rattle.paper_interest.specs.Interest.{interpolated, upper_limit, lower_limit, InterestRange, KeyRange}
-use Rattle.paper.proofs.Logic.{pick_true, pick_false}
 use Rattle.paper.proofs.Differences.{whole_is_difference}
 use Rattle.paper_interest.proofs.Lifted.{lifted_is}
-use Rattle.paper_interest.proofs.InterestRanges.{valid_key_in_range, figures_held}
-use Rattle.interest_maturities.specs.KeyLaws.{maturity_at, valid_key_lem}
+use Rattle.paper_interest.proofs.InterestRanges.{figures_held}
+use Rattle.std.specs.Prelude.{map, get_or, slice_get, Some, None, unwrap_or}
+use Rattle.std.specs.Option.{option_map}
+use Rattle.std.proofs.lemmas.Option.{unwrap_or-slice_get, slice_get-map, slice_get_within, get_or_from_slice_get}
+use Rattle.interest_maturities.specs.KeyLaws.{key_in_range}
+use Rattle.interest_maturities.specs.declared.Nearest.TheVariants.{One, Two}
 use Rattle.interest_maturities.specs.Reads.{Reads}
 use Rattle.interest_maturities.specs.Lift.{lift, lifted, lifted_within}
 use Rattle.interest_maturities.specs.declared.forward.Point.{Point}
@@ -27,10 +26,20 @@ use Rattle.interest_maturities.specs.Points.{PointRange, rate_of, linear, point_
 use Rattle.interest_maturities.proofs.Lines.{interpolated_lifted, point_between_in_range}
 use Rattle.interest.specs.Figures.{point_of, PointAt}
 
--- a key maturity of numbers that are not refused is in range
-pub key_in_range : (numbers : List ℤ) (at : ℕ) → valid_keys numbers ≡ true → at % key_numbers ≡ 0
-    → at + key_numbers ≤ length numbers → KeyRange (maturity_at numbers at)
-key_in_range numbers at v e h = valid_key_in_range (key_at numbers at) (valid_key_lem numbers at v e h)
+-- the key maturity of a number is in range, and what is read off it stands at its place
+module _ (numbers : List ℤ) (n : ℕ) (k : Maturity) where
+  pub found_in_range : valid_keys numbers ≡ true → slice_get (maturities_of numbers) n ≡ Some k → KeyRange k
+  found_in_range v e =
+      key_in_range numbers k v (n, slice_get_within (maturities_of numbers) n k e, get_or_from_slice_get (maturities_of numbers) n k k e)
+
+module _ {A : Type 0} (f : Maturity → A) (d : A) (ks : List Maturity) (n : ℕ) where
+  pub figure_found : (k : Maturity) → slice_get ks n ≡ Some k → get_or (map f ks) n d ≡ f k
+  figure_found k e =
+      sym (unwrap_or-slice_get (map f ks) n d) ∙ ap (λ o. unwrap_or o d) (slice_get-map f ks n ∙ ap (option_map f) e)
+
+  pub figure_past : slice_get ks n ≡ None → get_or (map f ks) n d ≡ d
+  figure_past e =
+      sym (unwrap_or-slice_get (map f ks) n d) ∙ ap (λ o. unwrap_or o d) (slice_get-map f ks n ∙ ap (option_map f) e)
 
 pub point_in_range : (i : Interest) (k : Maturity) → InterestRange i → KeyRange k → PointRange (point_of i k)
 unfolding maturity_figures
@@ -55,59 +64,35 @@ between_estimates t a u b y h k =
     ∙ interpolated_lifted 0 t a u b y h k
     ∙ sym (whole_is_difference (linear t a u b y))
 
-module _ (i : Interest) (numbers : List ℤ) (y before after : ℕ) (g : InterestRange i) (v : valid_keys numbers ≡ true)
-    (s : Reads numbers y before after) where
-  abbrev pub earlier : Maturity
-  earlier = maturity_at numbers before
-
-  abbrev pub later : Maturity
-  later = maturity_at numbers after
-
-  pub key_before_in_range : KeyRange (maturity_at numbers before)
-  key_before_in_range = key_in_range numbers before v s.whole_before s.inside_before
-
-  pub key_after_in_range : KeyRange (maturity_at numbers after)
-  key_after_in_range = key_in_range numbers after v s.whole_after s.inside_after
-
+module _ (i : Interest) (ks : List Maturity) (y : ℕ) (g : InterestRange i) where
   -- one key maturity alone
-  pub point_here : before ≡ after → PointAt i (maturities_of numbers) y (point_of i (maturity_at numbers before))
-  point_here e =
+  pub point_here : (k : Maturity) → KeyRange k → Reads ks y (One k) → PointAt i ks y (point_of i k)
+  point_here k h s =
       record {
-        range = point_in_range i earlier g key_before_in_range;
-        rate = here (λ k. k.r) ∙ rate_is i earlier key_before_in_range;
-        up = here (λ k. pos (upward i k));
-        down = here (λ k. pos (downward i k));
+        range = point_in_range i k g h;
+        rate = s.reads (λ m. m.r) ∙ rate_is i k h;
+        up = s.reads (λ m. pos (upward i m));
+        down = s.reads (λ m. pos (downward i m));
       }
-    where
-      here : (f : Maturity → ℤ) → figure_at f (maturities_of numbers) y ≡ f (maturity_at numbers before)
-      here f = s.reads f ∙ pick_true (eqb before after) _ _ (eq-eqb before after e)
 
   -- between two
-  pub point_between_lem : (before ≡ after → ⊥) → earlier.t < y → y ≤ later.t
-      → PointAt i (maturities_of numbers) y
-      (point_between (point_of i (maturity_at numbers before)) (point_of i (maturity_at numbers after)) y)
+  pub point_between_lem : (k l : Maturity) → KeyRange k → KeyRange l → Reads ks y (Two k l)
+      → PointAt i ks y (point_between (point_of i k) (point_of i l) y)
   unfolding point_between
-  point_between_lem n h k =
+  point_between_lem k l a b s =
       record {
-        range = point_between_in_range (point_of i earlier) (point_of i later) y
-            (point_in_range i earlier g key_before_in_range)
-            (point_in_range i later g key_after_in_range) h k;
+        range = point_between_in_range (point_of i k) (point_of i l) y (point_in_range i k g a)
+            (point_in_range i l g b) s.around.0 s.around.1;
         rate =
-            two (λ m. m.r)
-            ∙ ap (λ (z : ℤ). interpolated earlier.t z later.t later.r y)
-            (rate_is i earlier key_before_in_range)
-            ∙ ap (λ (z : ℤ). interpolated earlier.t (rate_of (point_of i earlier)) later.t z y)
-            (rate_is i later key_after_in_range)
-            ∙ interpolated_lifted lift earlier.t (lifted earlier.r) later.t (lifted later.r) y h k;
-        up = two (λ m. pos (upward i m))
-            ∙ between_estimates earlier.t (upward i earlier) later.t (upward i later) y h k;
-        down = two (λ m. pos (downward i m))
-            ∙ between_estimates earlier.t (downward i earlier) later.t (downward i later) y h k;
+            s.reads (λ m. m.r)
+            ∙ ap (λ (z : ℤ). interpolated k.t z l.t l.r y) (rate_is i k a)
+            ∙ ap (λ (z : ℤ). interpolated k.t (rate_of (point_of i k)) l.t z y) (rate_is i l b)
+            ∙ interpolated_lifted lift k.t (lifted k.r) l.t (lifted l.r) y s.around.0 s.around.1;
+        up = s.reads (λ m. pos (upward i m))
+            ∙ between_estimates k.t (upward i k) l.t (upward i l) y s.around.0 s.around.1;
+        down = s.reads (λ m. pos (downward i m))
+            ∙ between_estimates k.t (downward i k) l.t (downward i l) y s.around.0 s.around.1;
       }
-    where
-      two : (f : Maturity → ℤ)
-          → figure_at f (maturities_of numbers) y ≡ interpolated earlier.t (f earlier) later.t (f later) y
-      two f = s.reads f ∙ pick_false (eqb before after) _ _ (ne_eqb before after n)
 
 -- the limits from the figures at the two terms are the paper's
 module _ (i : Interest) (ks : List Maturity) (m n : Point) (p : PointAt i ks i.ym m)

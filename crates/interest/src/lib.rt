@@ -3,21 +3,24 @@
 // asks them, and puts the answer together.
 #![tactic(auto)]
 
-ghost use Rattle.std.specs.Prelude.{◌≡◌, true, ◌&&◌, map, ◌+◌, ◌%◌, ◌≤◌, ◌<◌, ltb, length, get_or};
+ghost use Rattle.std.specs.Prelude.{◌≡◌, true, false, ◌&&◌, map, Contains, IfOk, IfErr, ◌%◌, ◌<◌, ltb, length, get_or};
+ghost use Rattle.paper.specs.declared.Verdict.TheVariants.{Done};
 ghost use Rattle.paper.specs.Lists.{eight};
 ghost use Rattle.paper.specs.Numbers.{key_numbers};
-ghost use Rattle.paper_interest.specs.Interest.{valid_interest, valid_keys, maturities_of, strictly_ascending};
+ghost use Rattle.paper.specs.Verdicts.{is_done, first_of};
+ghost use Rattle.paper_interest.specs.Interest.{valid_interest, valid_keys, maturities_of, strictly_ascending, interest_checks};
 ghost use Rattle.paper_interest.specs.Interest.{maturity_figures, no_figures, refused_interest, accepted_interest};
-ghost use Rattle.paper_interest.specs.Interest.{interest_answer, InterestRange};
-ghost use Rattle.interest_maturities.specs.KeyLaws.{maturity_at};
+ghost use Rattle.paper_interest.specs.Interest.{interest_answer};
 ghost use Rattle.interest_maturities.specs.Pair.{PairRange};
 ghost use Rattle.interest.specs.Figures.{point_of, PointAt};
 
+use interest_maturities::Nearest;
 use interest_maturities::forward::Point;
 use paper::{
     Day, Interest, InterestAnswer, Maturity, MaturityFigures, Statics, Tentative, Term, Verdict,
     WorkedBand,
 };
+use std::array;
 
 // ---- what is refused
 
@@ -50,23 +53,19 @@ fn in_order(i: Interest, numbers: &[i64]) -> bool
 }
 
 // The figures past the last key maturity, and of a refusal.
-fn no_figures() -> MaturityFigures
-    ensures { result ≡ no_figures }
-{
-    MaturityFigures {
-        change: 0,
-        volatility: 0,
-        tentative: Tentative { bp: 0, age: 0 },
-        up: 0,
-        down: 0,
-    }
-}
+const NO_FIGURES: MaturityFigures = MaturityFigures {
+    change: 0,
+    volatility: 0,
+    tentative: Tentative { bp: 0, age: 0 },
+    up: 0,
+    down: 0,
+};
 
 // "A refusal returns its number with all figures 0."
+#[tactic(auto, unfolding(paper_interest::specs::Interest::refused_interest))]
 pub fn refused(verdict: Verdict) -> InterestAnswer
     ensures { result ≡ refused_interest verdict }
 {
-    let none = no_figures();
     InterestAnswer {
         pair: WorkedBand {
             verdict,
@@ -74,110 +73,108 @@ pub fn refused(verdict: Verdict) -> InterestAnswer
             upper: 0,
         },
         count: 0,
-        figures: [none; Maturity::COUNT_MOST],
+        figures: [NO_FIGURES; Maturity::COUNT_MOST],
     }
 }
 
-// ---- the figures of the key maturities
+// ---- an evening that is not refused
 
-// The figures of the n-th key maturity.
-fn figures_at(i: Interest, numbers: &[i64], n: usize) -> MaturityFigures
-    requires interest_range { InterestRange i }
-    requires numbers_value { valid_keys numbers.now ≡ true }
-    requires n_bound { n < 8 }
-    ensures { result ≡ get_or (map (maturity_figures i) (maturities_of numbers.now)) n no_figures }
-{
-    let at = Maturity::NUMBERS * n;
-    if at < numbers.len() {
-        interest_maturities::repo::figures_of(i, interest_maturities::maturity_at(numbers, at))
-    } else {
-        no_figures()
+// What an evening gives, in range and in order.
+#[derive(Clone, Copy)]
+struct Evening<'a> {
+    i: Interest,
+    numbers: &'a [i64],
+    ghost pair_range: { PairRange i },
+    ghost numbers_value: { valid_keys numbers.now ≡ true },
+}
+
+impl Evening<'_> {
+    // The figures of the key maturity of number n.
+    fn figures_at(&self, n: usize) -> MaturityFigures
+        requires { n < 8 }
+        ensures { result ≡ get_or (map (maturity_figures self.now.i) (maturities_of self.now.numbers.now)) n no_figures }
+    {
+        match interest_maturities::nth(self.numbers, n) {
+            Some(k) => interest_maturities::repo::figures_of(self.i, k),
+            None => NO_FIGURES,
+        }
+    }
+
+    fn all_figures(&self) -> [MaturityFigures; Maturity::COUNT_MOST]
+        ensures { result ≡ eight (λ n. get_or (map (maturity_figures self.now.i) (maturities_of self.now.numbers.now)) n
+            no_figures) }
+    {
+        array::from_fn(|n| self.figures_at(n))
+    }
+
+    // What a term's figures are read off, of a key maturity.
+    fn point_of(&self, k: Maturity) -> Point
+        requires { Contains (maturities_of self.now.numbers.now) k }
+        ensures { result ≡ point_of self.now.i k }
+    {
+        let figures = interest_maturities::repo::figures_of(self.i, k);
+        Point {
+            t: k.t,
+            rate: interest_maturities::repo::lifted(k.r),
+            up: figures.up,
+            down: figures.down,
+        }
+    }
+
+    // The figures y days ahead: of the nearest key maturity, or between two (14.6).
+    fn point_at(&self, y: u64) -> Point
+        ensures { PointAt self.now.i (maturities_of self.now.numbers.now) y result }
+    {
+        match interest_maturities::neighbours(self.numbers, y) {
+            Nearest::One(k) => self.point_of(k),
+            Nearest::Two(before, after) => {
+                interest_maturities::forward::between(
+                    self.point_of(before),
+                    self.point_of(after),
+                    y,
+                )
+            }
+        }
+    }
+
+    fn answer(&self) -> InterestAnswer
+        ensures { result ≡ accepted_interest self.now.i (maturities_of self.now.numbers.now) }
+    {
+        let m = self.point_at(self.i.ym);
+        let n = self.point_at(self.i.yn);
+        let band = interest_maturities::forward::band_of(self.i, m, n);
+        InterestAnswer {
+            pair: WorkedBand {
+                verdict: Verdict::Done,
+                lower: band.low,
+                upper: band.high,
+            },
+            count: (self.numbers.len() / Maturity::NUMBERS) as u64,
+            figures: self.all_figures(),
+        }
     }
 }
 
-fn all_figures(i: Interest, numbers: &[i64]) -> [MaturityFigures; Maturity::COUNT_MOST]
-    requires interest_range { InterestRange i }
-    requires numbers_value { valid_keys numbers.now ≡ true }
-    ensures { result ≡ eight (λ n. get_or (map (maturity_figures i) (maturities_of numbers.now)) n
-        no_figures) }
+// What is given, if it is in range (6), and its key maturities and the pair's two terms ascend (14).
+fn judged<'a>(i: Interest, numbers: &'a [i64]) -> Result<Evening<'a>, Verdict>
+    ensures accepted { IfOk result (λ e. (e.i ≡ i) × (e.numbers.now ≡ numbers.now) × (first_of (interest_checks i numbers.now) ≡ Done)) }
+    ensures refused { IfErr result (λ v. (first_of (interest_checks i numbers.now) ≡ v) × (is_done v ≡ false)) }
 {
-    [
-        figures_at(i, numbers, 0),
-        figures_at(i, numbers, 1),
-        figures_at(i, numbers, 2),
-        figures_at(i, numbers, 3),
-        figures_at(i, numbers, 4),
-        figures_at(i, numbers, 5),
-        figures_at(i, numbers, 6),
-        figures_at(i, numbers, 7),
-    ]
-}
-
-// ---- the figures at a term (14.6)
-
-// What a term's figures are read off, of the key maturity that begins at a place.
-fn point_of(i: Interest, numbers: &[i64], at: usize) -> Point
-    requires interest_range { InterestRange i }
-    requires numbers_value { valid_keys numbers.now ≡ true }
-    requires key_numbers_value { (at % key_numbers ≡ 0) × (at + key_numbers ≤ length numbers.now) }
-    ensures { result ≡ point_of i (maturity_at numbers.now at) }
-{
-    let k = interest_maturities::maturity_at(numbers, at);
-    let figures = interest_maturities::repo::figures_of(i, k);
-    Point {
-        t: k.t,
-        rate: interest_maturities::repo::lifted(k.r),
-        up: figures.up,
-        down: figures.down,
+    if !(interest_valid(i) & interest_maturities::keys_valid(numbers)) {
+        return Err(Verdict::OutOfRange);
     }
-}
-
-// The figures y days ahead: of the nearest key maturity, or between two.
-fn point_at(i: Interest, numbers: &[i64], y: u64) -> Point
-    requires interest_range { InterestRange i }
-    requires numbers_value { valid_keys numbers.now ≡ true }
-    ensures { PointAt i (maturities_of numbers.now) y result }
-{
-    let places = interest_maturities::neighbours(numbers, y);
-    let before = point_of(i, numbers, places.before);
-    if places.before == places.after {
-        return before;
+    if !in_order(i, numbers) {
+        return Err(Verdict::NotAscending);
     }
-    let after = point_of(i, numbers, places.after);
-    interest_maturities::forward::between(before, after, y)
-}
-
-// ---- the answer
-
-fn accepted(i: Interest, numbers: &[i64]) -> InterestAnswer
-    requires pair_range { PairRange i }
-    requires numbers_value { valid_keys numbers.now ≡ true }
-    ensures { result ≡ accepted_interest i (maturities_of numbers.now) }
-{
-    let m = point_at(i, numbers, i.ym);
-    let n = point_at(i, numbers, i.yn);
-    let band = interest_maturities::forward::band_of(i, m, n);
-    let figures = all_figures(i, numbers);
-    InterestAnswer {
-        pair: WorkedBand {
-            verdict: Verdict::Done,
-            lower: band.low,
-            upper: band.high,
-        },
-        count: (numbers.len() / Maturity::NUMBERS) as u64,
-        figures,
-    }
+    Ok(Evening { i, numbers })
 }
 
 // What the interest side answers, for every input: 6, 14, or the pair's limits and the figures of every key maturity.
 pub fn answer(i: Interest, numbers: &[i64]) -> InterestAnswer
     ensures { result ≡ interest_answer i numbers.now }
 {
-    if !(interest_valid(i) & interest_maturities::keys_valid(numbers)) {
-        return refused(Verdict::OutOfRange);
+    match judged(i, numbers) {
+        Ok(evening) => evening.answer(),
+        Err(verdict) => refused(verdict),
     }
-    if !in_order(i, numbers) {
-        return refused(Verdict::NotAscending);
-    }
-    accepted(i, numbers)
 }

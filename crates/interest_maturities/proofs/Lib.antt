@@ -1,6 +1,6 @@
 -- The walk over the key maturities, and the laws of figures between two of them and of a band's limits, that the
 -- functions of this crate share.
-pub mod Walk
+pub mod Passed
 pub mod Lines
 pub mod Limits
 pub mod Bits

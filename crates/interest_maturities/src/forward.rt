@@ -49,25 +49,6 @@ pub fn between(a: Point, b: Point, y: u64) -> Point
 // What a limit is counted from: above the size of every limit. It is no number of the paper.
 const BASE: u64 = 1_000_000_000;
 
-// The forward rate times Yn - Ym, counted from the base: R(Yn)·Yn - R(Ym)·Ym. m and n are the figures at Ym and at Yn.
-fn risen(i: Interest, m: Point, n: Point) -> u64
-    requires pair_range { PairRange i }
-    requires point_range { PointRange m }
-    requires point_range_2 { PointRange n }
-    ensures { Risen i m n result }
-{
-    n.rate * i.yn + (BASE - LIFT) * (i.yn - i.ym) - m.rate * i.ym
-}
-
-// 100·Δ(Yn)/x_IR, over the same denominator (Yn - Ym)·x_IR.
-fn margin(i: Interest, estimate: u64) -> u64
-    requires pair_range { PairRange i }
-    requires estimate_le_figure_most { estimate ≤ figure_most }
-    ensures { Margin i estimate result }
-{
-    ONE_IN_HUNDREDTHS * (i.yn - i.ym) * estimate
-}
-
 // n - from, of either sign.
 fn lowered(n: u64, from: u64) -> i64
     requires { (n < 2 ^ 62) × (from < 2 ^ 62) }
@@ -76,34 +57,75 @@ fn lowered(n: u64, from: u64) -> i64
     n as i64 - from as i64
 }
 
-// "each band limit round once, half up to a bp"
-fn limit_from(i: Interest, n: u64) -> i64
-    requires pair_range { PairRange i }
-    requires n_bound { n < 2 ^ 62 }
-    ensures { result ≡ limit_from i (sub_ℕ n (base * ((i.yn - i.ym) * i.xir))) }
-{
-    lowered(exact::half_up(n, (i.yn - i.ym) * i.xir), BASE)
+// A pair of terms Ym/Yn of an evening, with the figures m at Ym and n at Yn.
+#[derive(Clone, Copy)]
+struct Pair {
+    i: Interest,
+    m: Point,
+    n: Point,
+    ghost pair_range: { PairRange i },
+    ghost point_range: { PointRange m },
+    ghost point_range_2: { PointRange n },
 }
 
-// Both limits before they are held: the forward rate less the downward margin, and with the upward one.
-fn worked(i: Interest, m: Point, n: Point) -> RepoLimits
-    requires pair_range { PairRange i }
-    requires point_range { PointRange m }
-    requires point_range_2 { PointRange n }
-    ensures { result ≡ band_worked i (rate_of m) (rate_of n) (pos n.down) (pos n.up) }
-{
-    let forward = i.xir * risen(i, m, n);
-    RepoLimits {
-        low: limit_from(i, forward - margin(i, n.down)),
-        high: limit_from(i, forward + margin(i, n.up)),
+impl Pair {
+    // The forward rate times Yn - Ym, counted from the base: R(Yn)·Yn - R(Ym)·Ym.
+    fn risen(self) -> u64
+        ensures { Risen self.i self.m self.n result }
+    {
+        let i = self.i;
+        self.n.rate * i.yn + (BASE - LIFT) * (i.yn - i.ym) - self.m.rate * i.ym
     }
-}
 
-// "Y0/Y1 is held by the money and security rollover rates."
-fn is_held(i: Interest) -> bool
-    ensures { result ≡ is_held i }
-{
-    (i.ym == 0) & (i.yn == 1)
+    // 100·Δ(Yn)/x_IR, over the same denominator (Yn - Ym)·x_IR.
+    fn margin(self, estimate: u64) -> u64
+        requires { estimate ≤ figure_most }
+        ensures { Margin self.i estimate result }
+    {
+        ONE_IN_HUNDREDTHS * (self.i.yn - self.i.ym) * estimate
+    }
+
+    // "each band limit round once, half up to a bp"
+    fn limit_from(self, n: u64) -> i64
+        requires { n < 2 ^ 62 }
+        ensures { result ≡ limit_from self.i (sub_ℕ n (base * ((self.i.yn - self.i.ym) * self.i.xir))) }
+    {
+        let i = self.i;
+        lowered(exact::half_up(n, (i.yn - i.ym) * i.xir), BASE)
+    }
+
+    // Both limits before they are held: the forward rate less the downward margin, and with the upward one.
+    fn worked(self) -> RepoLimits
+        ensures { result ≡ band_worked self.i (rate_of self.m) (rate_of self.n) (pos self.n.down) (pos self.n.up) }
+    {
+        let forward = self.i.xir * self.risen();
+        RepoLimits {
+            low: self.limit_from(forward - self.margin(self.n.down)),
+            high: self.limit_from(forward + self.margin(self.n.up)),
+        }
+    }
+
+    // "Y0/Y1 is held by the money and security rollover rates."
+    #[tactic(auto, unfolding(paper_interest::specs::Interest::is_held))]
+    fn is_held(self) -> bool
+        ensures { result ≡ is_held self.i }
+    {
+        self.i.ym == 0 && self.i.yn == 1
+    }
+
+    fn band(self) -> RepoLimits
+        ensures { result ≡ band_held self.i (rate_of self.m) (rate_of self.n) (pos self.n.down) (pos self.n.up) }
+    {
+        let band = self.worked();
+        if self.is_held() {
+            RepoLimits {
+                low: band.low.max(self.i.secrate),
+                high: band.high.min(self.i.money),
+            }
+        } else {
+            band
+        }
+    }
 }
 
 // The repo band of the pair, from the figures at Ym and at Yn.
@@ -113,13 +135,5 @@ pub fn band_of(i: Interest, m: Point, n: Point) -> RepoLimits
     requires point_range_2 { PointRange n }
     ensures { result ≡ band_held i (rate_of m) (rate_of n) (pos n.down) (pos n.up) }
 {
-    let band = worked(i, m, n);
-    if is_held(i) {
-        RepoLimits {
-            low: band.low.max(i.secrate),
-            high: band.high.min(i.money),
-        }
-    } else {
-        band
-    }
+    Pair { i, m, n }.band()
 }

@@ -5,13 +5,16 @@
 pub mod repo; // the figures of one key maturity (14.4)
 pub mod forward; // what lies between them, and the repo band of a pair of terms
 
-ghost use Rattle.std.specs.Prelude.{◌≡◌, ◌+◌, ◌%◌, ◌≤◌, length};
+ghost use Rattle.std.specs.Prelude.{◌≡◌, ◌∷◌, ◌+◌, ◌%◌, ◌≤◌, ◌<◌, length, slice_get, MatchOption, IfSome};
 ghost use Rattle.paper.specs.Numbers.{key_numbers};
 ghost use Rattle.paper_interest.specs.Interest.{key_at, valid_keys, maturity_of};
 ghost use Rattle.paper_interest.specs.Interest.{maturities_of, strictly_ascending};
 ghost use Rattle.interest_maturities.specs.Reads.{Reads};
 
 use paper::{Maturity, Record, Tentative, Term};
+
+// How many numbers a key maturity has.
+const KEY_NUMBERS: usize = Maturity::NUMBERS;
 
 // The ends of ranges of which paper's code has the unsigned number: what is lent is signed.
 const DAYS_MOST: i64 = Maturity::DAYS_MOST as i64;
@@ -63,23 +66,41 @@ pub fn keys_valid(numbers: &[i64]) -> bool
 
 // ---- a key maturity and its neighbours
 
-// The key maturity that begins at a place. Its numbers are the paper's where they are in range.
-pub fn maturity_at(numbers: &[i64], at: usize) -> Maturity
-    requires { at + key_numbers ≤ length numbers.now }
-    ensures { result ≡ maturity_of (key_at numbers.now at) }
+// The key maturity that its numbers are. They are the paper's where they are in range.
+fn maturity_of(numbers: &[i64; KEY_NUMBERS]) -> Maturity
+    ensures { result ≡ maturity_of (key_at numbers.now 0) }
 {
+    let [t, r, r1, r2, index, volatility, bp, age] = *numbers;
     Maturity {
-        t: exact::unsigned_at(numbers, at),
-        r: numbers[at + 1],
-        r1: numbers[at + 2],
-        r2: numbers[at + 3],
-        index: numbers[at + 4],
-        volatility: exact::unsigned_at(numbers, at + 5),
+        t: exact::unsigned(t),
+        r,
+        r1,
+        r2,
+        index,
+        volatility: exact::unsigned(volatility),
         tentative: Tentative {
-            bp: exact::unsigned_at(numbers, at + 6),
-            age: exact::unsigned_at(numbers, at + 7),
+            bp: exact::unsigned(bp),
+            age: exact::unsigned(age),
         },
     }
+}
+
+// The first key maturity, and the numbers of the others.
+pub fn split_first(numbers: &[i64]) -> Option<(Maturity, &[i64])>
+    ensures parts { MatchOption result (length numbers.now < key_numbers) (λ p. maturities_of numbers.now ≡ p.0 ∷ maturities_of p.1.now) }
+    ensures shorter { IfSome result (λ p. length p.1.now + key_numbers ≡ length numbers.now) }
+{
+    let (first, others) = numbers.split_first_chunk::<KEY_NUMBERS>()?;
+    Some((maturity_of(first), others))
+}
+
+// The key maturity of number n, from 0 on.
+pub fn nth(numbers: &[i64], n: usize) -> Option<Maturity>
+    requires { n < 8 }
+    ensures { result ≡ slice_get (maturities_of numbers.now) n }
+{
+    let (k, _) = split_first(numbers.get(KEY_NUMBERS * n..)?)?;
+    Some(k)
 }
 
 // "key maturities .. strictly ascending": each is before the next, else the evening is refused 14.
@@ -87,50 +108,48 @@ pub fn is_ascending(numbers: &[i64]) -> bool
     requires { length numbers.now % key_numbers ≡ 0 }
     ensures { result ≡ strictly_ascending (maturities_of numbers.now) }
 {
-    let mut at = 0;
-    while Maturity::NUMBERS < numbers.len() - at {
-        let next = at + Maturity::NUMBERS;
-        if exact::unsigned_at(numbers, next) <= exact::unsigned_at(numbers, at) {
+    let Some((first, others)) = split_first(numbers) else {
+        return true;
+    };
+    let mut last = first.t;
+    let mut rest = others;
+    while let Some((next, others)) = split_first(rest) {
+        if next.t <= last {
             return false;
         }
-        at = next;
+        last = next.t;
+        rest = others;
     }
     true
 }
 
-// Where the key maturities before and after a term begin; one place twice where there is one.
+// The key maturities that a term's figures are read off: one, or two with the term between them.
 #[derive(Clone, Copy)]
-pub struct Places {
-    pub before: usize,
-    pub after: usize,
+pub enum Nearest {
+    One(Maturity),
+    Two(Maturity, Maturity),
 }
 
 // "Maturities between the key ones are interpolated, and outside them take the nearest one's" (14.6): the key
-// maturities that every figure for a term of y days is read off. They are one where y is not after the first, or is
+// maturities that every figure for a term of y days is read off. There is one where y is not after the first, or is
 // after the last.
-pub fn neighbours(numbers: &[i64], y: u64) -> Places
+pub fn neighbours(numbers: &[i64], y: u64) -> Nearest
     requires { (length numbers.now % key_numbers ≡ 0) × (key_numbers ≤ length numbers.now) }
-    ensures { Reads numbers.now y result.before result.after }
+    ensures { Reads (maturities_of numbers.now) y result }
 {
-    if y <= exact::unsigned_at(numbers, 0) {
-        return Places {
-            before: 0,
-            after: 0,
-        };
+    let (first, others) = split_first(numbers).unwrap();
+    if y <= first.t {
+        return Nearest::One(first);
     }
-    let mut at = 0;
-    while Maturity::NUMBERS < numbers.len() - at {
-        let next = at + Maturity::NUMBERS;
-        if y <= exact::unsigned_at(numbers, next) {
-            return Places {
-                before: at,
-                after: next,
-            };
+    let mut last = first;
+    let mut rest = others;
+    while let Some((next, others)) = split_first(rest) {
+        let t = next.t;
+        if y <= t {
+            return Nearest::Two(last, next);
         }
-        at = next;
+        last = next;
+        rest = others;
     }
-    Places {
-        before: at,
-        after: at,
-    }
+    Nearest::One(last)
 }

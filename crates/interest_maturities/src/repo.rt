@@ -39,56 +39,6 @@ pub fn change_of(k: Maturity) -> u64
     apart(k.r, k.r1).max(apart(k.r, k.r2))
 }
 
-// The shares' rule in basis points, with the old tentative rate as the last rate.
-fn volatility_of(i: Interest, k: Maturity, change: u64) -> u64
-    requires interest_range { InterestRange i }
-    requires key_range { KeyRange k }
-    requires change_value { change ≡ change_of k }
-    ensures { result ≡ repo_volatility i k }
-{
-    let model = i.model;
-    rates::volatility::volatility_of(model, i.b, k.tentative.bp, change, k.volatility)
-}
-
-// The t of the paper: no maximum holds it.
-fn tentative_rate(i: Interest, volatility: u64) -> u64
-    requires interest_range { InterestRange i }
-    requires volatility_le_repo_volatility_most { volatility ≤ repo_volatility_most }
-    ensures { result ≡ least_step i.h one_in_hundredths (i.model.q * volatility) }
-{
-    rates::tentative::least_step(i.h, ONE_IN_HUNDREDTHS, i.model.q * volatility)
-}
-
-// Up to t at once, down by one step where it has waited: the shares' rule.
-fn tentative_of(i: Interest, k: Maturity, volatility: u64) -> Tentative
-    requires interest_range { InterestRange i }
-    requires key_range { KeyRange k }
-    requires volatility_value { volatility ≡ repo_volatility i k }
-    ensures { result ≡ repo_tentative i k }
-{
-    let t = tentative_rate(i, volatility);
-    let old = k.tentative;
-    rates::tentative::tentative_after(i.h, i.wait, t, old)
-}
-
-// The least multiple of h at or above the greater of tentative + liquidity and the minimum.
-fn estimate(i: Interest, tentative: u64, minimum: u64) -> u64
-    requires interest_range { InterestRange i }
-    requires tentative_le_repo_tentative_most { (tentative ≤ repo_tentative_most) × (minimum ≤ repo_tentative_most) }
-    ensures { result ≡ estimate_of i tentative minimum }
-{
-    rates::tentative::least_step(i.h, 1, (tentative + i.liq).max(minimum))
-}
-
-// HΔ.
-fn upward(i: Interest, tentative: u64) -> u64
-    requires interest_range { InterestRange i }
-    requires tentative_le_repo_tentative_most { tentative ≤ repo_tentative_most }
-    ensures { result ≡ estimate_of i tentative i.mm }
-{
-    estimate(i, tentative, i.mm)
-}
-
 // REPOIndex - REPOrate + SECΔ, where below zero counts as 0.
 fn security_minimum(index: i64, rate: i64, sec: u64) -> u64
     requires { (nat_abs index ≤ nat_abs repo_most) × (nat_abs rate ≤ nat_abs repo_most) × (sec ≤ minimum_most) }
@@ -97,14 +47,87 @@ fn security_minimum(index: i64, rate: i64, sec: u64) -> u64
     (lifted(index) + sec).saturating_sub(lifted(rate))
 }
 
-// LΔ.
-fn downward(i: Interest, k: Maturity, tentative: u64) -> u64
-    requires interest_range { InterestRange i }
-    requires key_range { KeyRange k }
-    requires tentative_le_repo_tentative_most { tentative ≤ repo_tentative_most }
-    ensures { result ≡ estimate_of i tentative (at_least_zero (security_minimum k.index k.r i.sec)) }
-{
-    estimate(i, tentative, security_minimum(k.index, k.r, i.sec))
+// An evening and one of its key maturities, both in range.
+#[derive(Clone, Copy)]
+struct Key {
+    i: Interest,
+    k: Maturity,
+    ghost interest_range: { InterestRange i },
+    ghost key_range: { KeyRange k },
+}
+
+impl Key {
+    // The shares' rule in basis points, with the old tentative rate as the last rate.
+    fn volatility_of(self, change: u64) -> u64
+        requires { change ≡ change_of self.k }
+        ensures { result ≡ repo_volatility self.i self.k }
+    {
+        let k = self.k;
+        rates::volatility::volatility_of(
+            self.i.model,
+            self.i.b,
+            k.tentative.bp,
+            change,
+            k.volatility,
+        )
+    }
+
+    // The t of the paper: no maximum holds it.
+    fn tentative_rate(self, volatility: u64) -> u64
+        requires { volatility ≤ repo_volatility_most }
+        ensures { result ≡ least_step self.i.h one_in_hundredths (self.i.model.q * volatility) }
+    {
+        rates::tentative::least_step(self.i.h, ONE_IN_HUNDREDTHS, self.i.model.q * volatility)
+    }
+
+    // Up to t at once, down by one step where it has waited: the shares' rule.
+    fn tentative_of(self, volatility: u64) -> Tentative
+        requires { volatility ≡ repo_volatility self.i self.k }
+        ensures { result ≡ repo_tentative self.i self.k }
+    {
+        let t = self.tentative_rate(volatility);
+        rates::tentative::tentative_after(self.i.h, self.i.wait, t, self.k.tentative)
+    }
+
+    // The least multiple of h at or above the greater of tentative + liquidity and the minimum.
+    fn estimate(self, tentative: u64, minimum: u64) -> u64
+        requires { (tentative ≤ repo_tentative_most) × (minimum ≤ repo_tentative_most) }
+        ensures { result ≡ estimate_of self.i tentative minimum }
+    {
+        rates::tentative::least_step(self.i.h, 1, (tentative + self.i.liq).max(minimum))
+    }
+
+    // HΔ.
+    fn upward(self, tentative: u64) -> u64
+        requires { tentative ≤ repo_tentative_most }
+        ensures { result ≡ estimate_of self.i tentative self.i.mm }
+    {
+        self.estimate(tentative, self.i.mm)
+    }
+
+    // LΔ.
+    fn downward(self, tentative: u64) -> u64
+        requires { tentative ≤ repo_tentative_most }
+        ensures { result ≡ estimate_of self.i tentative (at_least_zero (security_minimum self.k.index self.k.r self.i.sec)) }
+    {
+        let k = self.k;
+        self.estimate(tentative, security_minimum(k.index, k.r, self.i.sec))
+    }
+
+    fn figures(self) -> MaturityFigures
+        ensures { result ≡ maturity_figures self.i self.k }
+    {
+        let change = change_of(self.k);
+        let volatility = self.volatility_of(change);
+        let tentative = self.tentative_of(volatility);
+        MaturityFigures {
+            change,
+            volatility,
+            tentative,
+            up: self.upward(tentative.bp),
+            down: self.downward(tentative.bp),
+        }
+    }
 }
 
 // The figures of a key maturity.
@@ -113,14 +136,5 @@ pub fn figures_of(i: Interest, k: Maturity) -> MaturityFigures
     requires key_range { KeyRange k }
     ensures { result ≡ maturity_figures i k }
 {
-    let change = change_of(k);
-    let volatility = volatility_of(i, k, change);
-    let tentative = tentative_of(i, k, volatility);
-    MaturityFigures {
-        change,
-        volatility,
-        tentative,
-        up: upward(i, tentative.bp),
-        down: downward(i, k, tentative.bp),
-    }
+    Key { i, k }.figures()
 }
