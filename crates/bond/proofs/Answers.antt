@@ -1,7 +1,8 @@
 -- The answer by what is refused: 6, then 17, then 7, then 9, else the figures.
-use mathlib.Core.Path.{◌≡◌}
-use mathlib.Core.Bool.{true, false, ◌&&◌}
-use mathlib.Core.List.{List}
+use mathlib.Core.Path.{◌≡◌, refl, ap, ◌∙◌}
+use mathlib.Core.Bool.{Bool, true, false, ◌&&◌, ◌||◌}
+use mathlib.Core.List.{List, [], ◌∷◌}
+use Rattle.std.specs.List.{list_any}
 use native.Mathlib.Omega.{arith}
 use lib.Dec.{eqb}
 use lib.IntN.{ℤ}
@@ -12,9 +13,20 @@ use Rattle.paper.specs.Ranges.{is_price}
 use Rattle.paper.specs.Verdicts.{is_done, first_of}
 use Rattle.paper.proofs.Logic.{and_both}
 use Rattle.paper_bonds.specs.declared.Bond.{Bond}
+use Rattle.paper_bonds.specs.declared.BondLimits.{BondLimits}
 use Rattle.paper_bonds.specs.Bonds.{valid_bond, valid_flows, flows_of, gross_of, all_limits, is_crossed, bond_checks}
 use Rattle.paper_bonds.specs.Bonds.{refused_bond, accepted_bond, bond_answer}
 use Rattle.bond.specs.PriceKnown.{PriceKnown}
+
+-- the library's word for a test that one of a list passes is the paper's
+list_any-some : {A : Type 0} (p : A → Bool) (xs : List A) → list_any p xs ≡ some p xs
+unfolding some
+list_any-some p [] = refl
+list_any-some p (x ∷ xs) = ap (λ (b : Bool). p x || b) (list_any-some p xs)
+
+pub crossed_is : (crossed : Bool) (all limits : List BondLimits) → crossed ≡ list_any is_crossed limits → limits ≡ all
+    → crossed ≡ some is_crossed all
+crossed_is crossed all limits c l = c ∙ list_any-some is_crossed limits ∙ ap (some is_crossed) l
 
 module _ (b : Bond) (numbers : List ℤ) where
   pub answers_out_of_range : (valid_bond b && valid_flows numbers) ≡ false → refused_bond OutOfRange ≡ bond_answer b numbers

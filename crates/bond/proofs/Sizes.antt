@@ -22,11 +22,34 @@ use Rattle.exact.specs.SignedLaws.{growth_most, grown_near_base}
 use Rattle.exact.specs.Wide.{Divides}
 use Rattle.limits.specs.Sides.{farthest_rate}
 use Rattle.limits.specs.LimitLaws.{shifted_high}
-use Rattle.bond.specs.BondInputs.{GrowthRange, PriceRange, SideRange, grown_most}
+use Rattle.limits.specs.Sides.{repo_of}
+use Rattle.limits.specs.LimitRanges.{term_repo_within_most, term_days_within_most}
+use Rattle.paper.specs.declared.Term.{Term}
+use Rattle.bond.specs.BondInputs.{GrowthRange, PriceRange, SideRange, TermRange, grown_most}
 
 -- a repo rate is its own bits read back
 pub rate_kept_in_bits : (x : ℤ) → mag x ≤ mag repo_most → to_z w64 (of_z w64 x) ≡ x
 rate_kept_in_bits x h = to_z-of_z {w = w64} (record { sfits = omega arith })
+
+-- ---- a term
+
+module _ (p : Price) (s1 : Rate) (x : Term) (r : TermRange p s1 x) where
+  pub price_in_range : PriceRange p x.k
+  price_in_range = record { price = r.price; days = term_days_within_most x r.term }
+
+module _ (side : Side) (p : Price) (s1 : Rate) (x : Term) (r : TermRange p s1 x) where
+  pub side_in_range : SideRange p s1 x.k (repo_of side x)
+  side_in_range =
+      record {
+        price = r.price;
+        rate_high = r.rate_high;
+        days = term_days_within_most x r.term;
+        repo_high = term_repo_within_most side x r.term;
+      }
+
+  -- a side's repo rate is its own bits read back
+  pub side_repo_kept : to_z w64 (of_z w64 (repo_of side x)) ≡ repo_of side x
+  side_repo_kept = rate_kept_in_bits (repo_of side x) (term_repo_within_most side x r.term)
 
 -- ---- the growth
 

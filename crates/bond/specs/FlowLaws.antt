@@ -12,7 +12,8 @@ use Rattle.paper.specs.Roundings.{grown}
 use Rattle.paper.proofs.Logic.{and_left, and_right}
 use Rattle.paper.proofs.Roundings.{half_le}
 use Rattle.exact.specs.SignedLaws.{grown_near_base, unsigned_le}
-use Rattle.exact.specs.LentLaws.{Place, parts_left, left_first, left_here, left_end}
+use Rattle.std.specs.Prelude.{◌<◌, get_or, take, drop}
+use Rattle.std.proofs.lemmas.List.{get_or-drop, get_or-take, length-drop}
 use Rattle.paper_bonds.specs.declared.Flow.{Flow}
 use Rattle.paper_bonds.specs.BondNumbers.{money_most, flow_numbers, all_flow_numbers_most, flow_day_least, flow_day_most}
 use Rattle.paper_bonds.specs.Bonds.{LentFlow, flow_at, lent_flows, whole_flows, valid_flow, valid_flows, flow_of, flows_of}
@@ -49,14 +50,56 @@ amount_high f v =
     unsigned_le 0 money_most f.amount (omega arith)
     (and_right (within_z (pos flow_day_least) (pos flow_day_most) f.day) (within_z (pos 0) (pos money_most) f.amount) v)
 
--- ---- the cash flows from a place on
+-- ---- the first and the others
 
-abbrev pub rest_of : (numbers : List ℤ) → (at : ℕ) → List LentFlow
-rest_of numbers at = parts_left flow_at flow_numbers numbers at
+number_behind : (numbers : List ℤ) (i k : ℕ) → flow_numbers + i ≡ k
+    → get_or (drop flow_numbers numbers) i (pos 0) ≡ get_or numbers k (pos 0)
+number_behind numbers i k e =
+    get_or-drop flow_numbers numbers i (pos 0) ∙ ap (λ (n : ℕ). get_or numbers n (pos 0)) e
 
-pub rest_first : (numbers : List ℤ) → rest_of numbers 0 ≡ lent_flows numbers
-unfolding lent_flows
-rest_first numbers = left_first flow_at flow_numbers numbers
+flow_behind : (numbers : List ℤ) (at from : ℕ) → flow_numbers + at ≡ from
+    → flow_at (drop flow_numbers numbers) at ≡ flow_at numbers from
+unfolding flow_at
+flow_behind numbers at from e =
+    λ j. record {
+      day = number_behind numbers at from e j;
+      amount = number_behind numbers (at + 1) (from + 1) (omega arith) j;
+    }
+
+flows_behind : (numbers : List ℤ) (at from count : ℕ) → flow_numbers + at ≡ from
+    → parts_from flow_at flow_numbers numbers from count
+    ≡ parts_from flow_at flow_numbers (drop flow_numbers numbers) at count
+unfolding parts_from
+flows_behind numbers at from zero e = refl
+flows_behind numbers at from (suc count) e =
+    λ j. sym (flow_behind numbers at from e) j
+    ∷ flows_behind numbers (at + flow_numbers) (from + flow_numbers) count (omega arith) j
+
+-- the first stands in front
+pub flow_in_front : (numbers : List ℤ) → flow_at (take flow_numbers numbers) 0 ≡ flow_at numbers 0
+unfolding flow_at
+flow_in_front numbers =
+    λ j. record {
+      day = get_or-take flow_numbers numbers 0 (pos 0) (omega arith) j;
+      amount = get_or-take flow_numbers numbers 1 (pos 0) (omega arith) j;
+    }
+
+-- and the others behind it
+pub first_and_others : (numbers : List ℤ) → flow_numbers ≤ length numbers
+    → lent_flows numbers ≡ flow_at numbers 0 ∷ lent_flows (drop flow_numbers numbers)
+unfolding lent_flows parts_from
+first_and_others numbers h =
+    let count : length numbers / flow_numbers ≡ suc (length (drop flow_numbers numbers) / flow_numbers) =
+    omega (arith, length-drop flow_numbers numbers) in
+    ap (λ (n : ℕ). parts_from flow_at flow_numbers numbers 0 n) count
+    ∙ ap (λ (fs : List LentFlow). flow_at numbers 0 ∷ fs)
+    (flows_behind numbers 0 flow_numbers (length (drop flow_numbers numbers) / flow_numbers) refl)
+
+pub none_of_short : (numbers : List ℤ) → length numbers < flow_numbers → lent_flows numbers ≡ []
+unfolding lent_flows parts_from
+none_of_short numbers h =
+    let count : length numbers / flow_numbers ≡ 0 = omega arith in
+    ap (λ (n : ℕ). parts_from flow_at flow_numbers numbers 0 n) count
 
 -- ---- how large Carry can be
 
@@ -121,55 +164,37 @@ carry_most_lem numbers k repo i v =
 
 -- ---- a walk that sums
 
--- at a place: what is summed, with Carry of the rest, is Carry of all; and the rest is in range
-pub record Summing (numbers : List ℤ) (k : ℕ) (repo : ℤ) (total at : ℕ) : Type 0 where
-  pub place : Place flow_numbers numbers at
-  pub sums : total + carry_of repo k (map flow_of (rest_of numbers at)) ≡ carry_of repo k (flows_of numbers)
-  pub valid : every valid_flow (rest_of numbers at) ≡ true
+-- what is summed, with Carry of the rest, is Carry of all; and the rest is in range
+pub record Summing (all : List LentFlow) (k : ℕ) (repo : ℤ) (total : ℕ) (rest : List LentFlow) : Type 0 where
+  pub sums : total + carry_of repo k (map flow_of rest) ≡ carry_of repo k (map flow_of all)
+  pub valid : every valid_flow rest ≡ true
 
-module _ (numbers : List ℤ) (k : ℕ) (repo : ℤ) where
-  pub summing_first : valid_flows numbers ≡ true → Summing numbers k repo 0 0
-  unfolding flows_of
-  summing_first v =
+pub summing_first : (all : List LentFlow) (k : ℕ) (repo : ℤ) → every valid_flow all ≡ true → Summing all k repo 0 all
+summing_first all k repo v = record { sums = omega arith; valid = v }
+
+module _ (all : List LentFlow) (k : ℕ) (repo : ℤ) (total : ℕ) (rest : List LentFlow) (s : Summing all k repo total rest)
+    (first : LentFlow) (others : List LentFlow) (is : rest ≡ first ∷ others) where
+  here : every valid_flow (first ∷ others) ≡ true
+  here = ap (every valid_flow) (sym is) ∙ s.valid
+
+  -- the one at hand is in range
+  pub summing_amount : (flow_of first).amount ≤ money_most
+  unfolding every
+  summing_amount = amount_high first (and_left (valid_flow first) (every valid_flow others) here)
+
+  pub summing_next : Summing all k repo (total + carry_due repo k (flow_of first)) others
+  unfolding every carry_of
+  summing_next =
+      let more : carry_of repo k (map flow_of rest) ≡ carry_due repo k (flow_of first) + carry_of repo k (map flow_of others) =
+      ap (λ (fs : List LentFlow). carry_of repo k (map flow_of fs)) is in
       record {
-        place = record { inside = omega arith; parts = 0; is = omega arith };
-        sums = omega (arith, ap (λ (fs : List LentFlow). carry_of repo k (map flow_of fs)) (rest_first numbers));
-        valid = ap (every valid_flow) (rest_first numbers) ∙ valid_every numbers v;
+        sums = omega (arith, s.sums);
+        valid = and_right (valid_flow first) (every valid_flow others) here;
       }
 
-  module _ (total at : ℕ) (s : Summing numbers k repo total at) where
-    module _ (room : at + flow_numbers ≤ length numbers) where
-      is : rest_of numbers at ≡ flow_at numbers at ∷ rest_of numbers (at + flow_numbers)
-      is = left_here flow_at flow_numbers numbers at (omega arith) room
-
-      here : every valid_flow (flow_at numbers at ∷ rest_of numbers (at + flow_numbers)) ≡ true
-      here = ap (every valid_flow) (sym is) ∙ s.valid
-
-      -- the one at hand is in range
-      pub summing_amount : (flow_of (flow_at numbers at)).amount ≤ money_most
-      unfolding every
-      summing_amount =
-          amount_high (flow_at numbers at)
-          (and_left (valid_flow (flow_at numbers at)) (every valid_flow (rest_of numbers (at + flow_numbers))) here)
-
-      pub summing_next : Summing numbers k repo (total + carry_due repo k (flow_of (flow_at numbers at)))
-          (at + flow_numbers)
-      unfolding every carry_of
-      summing_next =
-          let rest : List LentFlow = rest_of numbers (at + flow_numbers) in
-          let more : carry_of repo k (map flow_of (rest_of numbers at))
-          ≡ carry_due repo k (flow_of (flow_at numbers at)) + carry_of repo k (map flow_of rest) =
-          ap (λ (fs : List LentFlow). carry_of repo k (map flow_of fs)) is in
-          record {
-            place = record { inside = room; parts = s.place.parts + 1; is = omega (arith, s.place.is) };
-            sums = omega (arith, s.sums);
-            valid = and_right (valid_flow (flow_at numbers at)) (every valid_flow rest) here;
-          }
-
-    pub summing_end : length numbers ≤ at → total ≡ carry_of repo k (flows_of numbers)
-    unfolding carry_of
-    summing_end h =
-        let none : carry_of repo k (map flow_of (rest_of numbers at)) ≡ 0 =
-        ap (λ (fs : List LentFlow). carry_of repo k (map flow_of fs))
-        (left_end flow_at flow_numbers numbers at (omega arith) h) in
-        omega (arith, s.sums)
+pub summing_end : (all : List LentFlow) (k : ℕ) (repo : ℤ) (total : ℕ) (rest : List LentFlow) → Summing all k repo total rest
+    → rest ≡ [] → total ≡ carry_of repo k (map flow_of all)
+unfolding carry_of
+summing_end all k repo total rest s e =
+    let none : carry_of repo k (map flow_of rest) ≡ 0 = ap (λ (fs : List LentFlow). carry_of repo k (map flow_of fs)) e in
+    omega (arith, s.sums)

@@ -3,13 +3,9 @@ use Rattle.std.specs.Prelude.{◌≡◌, true, List, ◌<◌, ℤ}
 use Rattle.paper.specs.declared.Price.{Price}
 use Rattle.paper.specs.declared.Rate.{Rate}
 use Rattle.paper.specs.declared.Statics.{Statics}
-use Rattle.paper.specs.Ranges.{is_price, no_limits}
+use Rattle.paper.specs.Ranges.{is_price}
 use Rattle.paper_bonds.specs.declared.Bond.{Bond}
-use Rattle.paper_bonds.specs.declared.BondLimits.{BondLimits}
 use Rattle.paper_bonds.specs.Bonds.{bond_statics, valid_bond, valid_flows, gross_of, first_rate}
-
-abbrev pub no_bond_limits : BondLimits
-no_bond_limits = record { band = no_limits; off = no_limits }
 
 -- it is in range, has a face value, and its gross evaluation is a price
 pub record PriceKnown (b : Bond) (numbers : List ℤ) : Type 0 where

@@ -1,15 +1,16 @@
 // The cash flows of a bond (document 02, W-206): two signed numbers each, lent in one slice, checked, read, and carried
 // to a term (11.1).
-ghost use Rattle.std.specs.Prelude.{◌≡◌, true, ◌+◌, ◌%◌, ◌≤◌, length};
-ghost use Rattle.std.specs.Int.Signed.{mag};
-ghost use Rattle.paper.specs.Numbers.{term_days_most, repo_most};
+ghost use Rattle.std.specs.Prelude.{◌≡◌, true, ◌∷◌, ◌+◌, ◌≤◌, ◌<◌, length, MatchOption, IfSome};
 ghost use Rattle.paper_bonds.specs.BondNumbers.{money_most, flow_numbers};
-ghost use Rattle.paper_bonds.specs.Bonds.{flow_at, valid_flows, flow_of, flows_of};
+ghost use Rattle.paper_bonds.specs.Bonds.{flow_at, lent_flows, valid_flows, flow_of, flows_of};
 ghost use Rattle.paper_bonds.specs.Bonds.{carry_term, carry_due, carry_of};
 ghost use Rattle.bond.specs.FlowLaws.{CarryInputs};
 
 use paper::YEAR_IN_DAY_BP;
 use paper_bonds::{Bond, Flow};
+
+// How many numbers a cash flow has.
+const FLOW_NUMBERS: usize = Flow::NUMBERS;
 
 // The end of a range of which the code has the unsigned number: what is lent is signed.
 const MONEY_MOST: i64 = Bond::MONEY_MOST as i64;
@@ -28,39 +29,69 @@ pub fn flows_valid(numbers: &[i64]) -> bool
     exact::parts_within(numbers, 0, Flow::ALL_NUMBERS_MOST, &FLOW_LEAST, &FLOW_MOST)
 }
 
-// ---- carry
+// ---- a cash flow
 
-// The cash flow that begins at a place. Its numbers are the paper's where they are in range.
-fn flow_at(numbers: &[i64], at: usize) -> Flow
-    requires { at + flow_numbers ≤ length numbers.now }
-    ensures { result ≡ flow_of (flow_at numbers.now at) }
+// The cash flow that its numbers are. They are the paper's where they are in range.
+fn flow_of(numbers: &[i64; FLOW_NUMBERS]) -> Flow
+    ensures { result ≡ flow_of (flow_at numbers.now 0) }
 {
+    let [day, amount] = *numbers;
     Flow {
-        day: exact::unsigned_at(numbers, at),
-        amount: exact::unsigned_at(numbers, at + 1),
+        day: exact::unsigned(day),
+        amount: exact::unsigned(amount),
     }
 }
 
-// "CashFlow(t)·(1 + REPOrate·(k - t)/36500)", half up to a unit.
-fn carry_term(f: Flow, k: u64, repo: i64) -> u64
-    requires carry_inputs { CarryInputs k repo }
-    requires amount_le_money_most { f.amount ≤ money_most }
-    ensures { result ≡ carry_term repo k f }
+// The first cash flow, and the numbers of the others.
+fn split_first(numbers: &[i64]) -> Option<(Flow, &[i64])>
+    ensures first { MatchOption result (length numbers.now < flow_numbers) (λ p. p.0 ≡ flow_of (flow_at numbers.now 0)) }
+    ensures others { IfSome result (λ p. lent_flows numbers.now ≡ flow_at numbers.now 0 ∷ lent_flows p.1.now) }
+    ensures shorter { IfSome result (λ p. length p.1.now + flow_numbers ≡ length numbers.now) }
 {
-    let days = exact::grow(YEAR_IN_DAY_BP, k.saturating_sub(f.day), repo);
-    exact::half_up(f.amount * days, YEAR_IN_DAY_BP)
+    let (first, others) = numbers.split_first_chunk::<FLOW_NUMBERS>()?;
+    Some((flow_of(first), others))
 }
 
-// Only a cash flow up to day k counts.
-fn carry_due(f: Flow, k: u64, repo: i64) -> u64
-    requires carry_inputs { CarryInputs k repo }
-    requires amount_le_money_most { f.amount ≤ money_most }
-    ensures { result ≡ carry_due repo k f }
-{
-    if f.day <= k {
-        carry_term(f, k, repo)
-    } else {
-        0
+// ---- carry
+
+// The days of a term and REPORate, in range: what the Carry of a cash flow is worked out in.
+#[derive(Clone, Copy)]
+struct Carry {
+    k: u64,
+    repo: i64,
+    ghost carry_inputs: { CarryInputs k repo },
+}
+
+impl Carry {
+    // "CashFlow(t)·(1 + REPOrate·(k - t)/36500)", half up to a unit.
+    fn term(self, f: Flow) -> u64
+        requires { f.amount ≤ money_most }
+        ensures { result ≡ carry_term self.repo self.k f }
+    {
+        let days = exact::grow(YEAR_IN_DAY_BP, self.k.saturating_sub(f.day), self.repo);
+        exact::half_up(f.amount * days, YEAR_IN_DAY_BP)
+    }
+
+    // Only a cash flow up to day k counts.
+    fn due(self, f: Flow) -> u64
+        requires { f.amount ≤ money_most }
+        ensures { result ≡ carry_due self.repo self.k f }
+    {
+        if f.day <= self.k { self.term(f) } else { 0 }
+    }
+
+    // The sum over the cash flows.
+    fn total(self, numbers: &[i64]) -> u64
+        requires { valid_flows numbers.now ≡ true }
+        ensures { result ≡ carry_of self.repo self.k (flows_of numbers.now) }
+    {
+        let mut total = 0;
+        let mut rest = numbers;
+        while let Some((flow, others)) = split_first(rest) {
+            total += self.due(flow);
+            rest = others;
+        }
+        total
     }
 }
 
@@ -70,11 +101,5 @@ pub fn carry_of(numbers: &[i64], k: u64, repo: i64) -> u64
     requires numbers_value { valid_flows numbers.now ≡ true }
     ensures { result ≡ carry_of repo k (flows_of numbers.now) }
 {
-    let mut total = 0;
-    let mut at = 0;
-    while at < numbers.len() {
-        total += carry_due(flow_at(numbers, at), k, repo);
-        at += Flow::NUMBERS;
-    }
-    total
+    Carry { k, repo }.total(numbers)
 }

@@ -5,12 +5,12 @@
 mod flows; // the cash flows, and Carry
 mod limit; // the limits of a term, on the book and off it
 
-ghost use Rattle.std.specs.Prelude.{◌≡◌, true, ◌<◌, get_or};
-ghost use Rattle.paper.specs.Lists.{three, some};
+ghost use Rattle.std.specs.Prelude.{◌≡◌, true, ◌<◌};
+ghost use Rattle.std.specs.List.{list_any};
 ghost use Rattle.paper.specs.Ranges.{valid_term};
 ghost use Rattle.paper_bonds.specs.Bonds.{bond_given, bond_statics, terms_of, valid_numbers, valid_bond, flows_of, gross_of};
 ghost use Rattle.paper_bonds.specs.Bonds.{limits_of, all_limits, is_crossed, refused_bond, bond_answer};
-ghost use Rattle.bond.specs.PriceKnown.{PriceKnown, Figured, no_bond_limits};
+ghost use Rattle.bond.specs.PriceKnown.{PriceKnown, Figured};
 
 use crate::flows::{carry_of, flows_valid};
 use crate::limit::{is_crossed, limits_of};
@@ -96,47 +96,54 @@ fn gross_of(b: Bond) -> u64
     exact::half_up(b.net * b.face, ONE_IN_PER_CENT_HUNDREDTHS) + b.accrued
 }
 
-// The limits of a term, with the Carry of the cash flows up to it.
-fn term_limits(b: Bond, st: Statics, p: Price, s1: Rate, x: Term, flows: &[i64]) -> BondLimits
-    requires price_known { PriceKnown b flows.now }
-    requires figured { Figured b st p s1 }
-    requires x_value { valid_term x ≡ true }
-    ensures { result ≡ limits_of b (flows_of flows.now) x }
-{
-    let carry = carry_of(flows, x.k, b.repo);
-    let scale = BondScale {
-        carry,
-        accrued: b.accrued,
-        face: b.face,
-        repo: b.repo,
-    };
-    limits_of(scale, st, p, s1, x)
-}
-
-fn all_limits(
+// A bond that is not refused 6, 17 or 7, with its cash flows, and what its limits are worked out from: its statics, P
+// and S_1.
+#[derive(Clone, Copy)]
+struct Evaluated<'a> {
     b: Bond,
+    flows: &'a [i64],
     st: Statics,
     p: Price,
     s1: Rate,
-    flows: &[i64],
-) -> [BondLimits; Record::TERMS]
-    requires price_known { PriceKnown b flows.now }
-    requires figured { Figured b st p s1 }
-    ensures { result ≡ all_limits b (flows_of flows.now) }
-{
-    let terms = terms_of(b);
-    [
-        term_limits(b, st, p, s1, terms[0], flows),
-        term_limits(b, st, p, s1, terms[1], flows),
-        term_limits(b, st, p, s1, terms[2], flows),
-    ]
+    ghost price_known: { PriceKnown b flows.now },
+    ghost figured: { Figured b st p s1 },
+}
+
+impl Evaluated<'_> {
+    // The limits of a term, with the Carry of the cash flows up to it.
+    fn limits_of(&self, x: Term) -> BondLimits
+        requires { valid_term x ≡ true }
+        ensures { result ≡ limits_of self.now.b (flows_of self.now.flows.now) x }
+    {
+        let b = self.b;
+        let carry = carry_of(self.flows, x.k, b.repo);
+        let scale = BondScale {
+            carry,
+            accrued: b.accrued,
+            face: b.face,
+            repo: b.repo,
+        };
+        limits_of(scale, self.st, self.p, self.s1, x)
+    }
+
+    fn all_limits(&self) -> [BondLimits; Record::TERMS]
+        ensures { result ≡ all_limits self.now.b (flows_of self.now.flows.now) }
+    {
+        // A closure of `map` or `from_fn` would have to say which term it gets: each of these three is valid.
+        let terms = terms_of(self.b);
+        [
+            self.limits_of(terms[0]),
+            self.limits_of(terms[1]),
+            self.limits_of(terms[2]),
+        ]
+    }
 }
 
 // Whether the limits of some term are crossed (9).
-fn some_crossed(limits: [BondLimits; Record::TERMS]) -> bool
-    ensures { result ≡ some is_crossed (three (λ k. get_or limits k no_bond_limits)) }
+fn some_crossed(limits: &[BondLimits]) -> bool
+    ensures { result ≡ list_any is_crossed limits.now }
 {
-    is_crossed(limits[0]) | is_crossed(limits[1]) | is_crossed(limits[2])
+    limits.iter().any(|x| is_crossed(*x))
 }
 
 // ---- the answer
@@ -170,8 +177,15 @@ fn priced(b: Bond, p: Price, flows: &[i64]) -> BondAnswer
     let figures = rates::figures_by_volatility(st, b.m, b.s, old);
     let tentative = figures.tentative;
     let rates = figures.rates;
-    let limits = all_limits(b, st, p, rates[0], flows);
-    if some_crossed(limits) {
+    let limits = Evaluated {
+        b,
+        flows,
+        st,
+        p,
+        s1: rates[0],
+    }
+    .all_limits();
+    if some_crossed(&limits) {
         return refused(Verdict::BandCrossed);
     }
     BondAnswer {

@@ -6,8 +6,9 @@ ghost use Rattle.paper.specs.Numbers.{rate_most};
 ghost use Rattle.paper.specs.Ranges.{valid_statics};
 ghost use Rattle.paper_desk.specs.Limits.{bond, inward, grown_price, bond_limit_of, shifted, growing, monitored};
 ghost use Rattle.paper_desk.specs.Limits.{narrower_of, band_limit_for};
+ghost use Rattle.limits.specs.Sides.{repo_of};
 ghost use Rattle.paper_bonds.specs.Bonds.{twenty_limit, limits_from, is_crossed};
-ghost use Rattle.bond.specs.BondInputs.{ScaleRange, GrowthRange, PriceRange, SideRange, TermRange};
+ghost use Rattle.bond.specs.BondInputs.{ScaleRange, GrowthRange, TermRange};
 ghost use Rattle.bond.specs.BondInputs.{grown_most, per_cent_of};
 
 use paper::{
@@ -16,7 +17,7 @@ use paper::{
 };
 use paper_bonds::{Bond, BondLimits};
 
-// ---- one limit
+// ---- the limits of a term
 
 // x/den grown over k days at a repo rate, half up to a unit.
 fn grown_price(x: u64, den: u64, k: u64, repo: i64) -> u64
@@ -30,101 +31,114 @@ fn grown_price(x: u64, den: u64, k: u64, repo: i64) -> u64
     )
 }
 
-// "(.. - Carry - НКД)/FaceValue·100", to two decimals of the per cent, that way; "Negative limits are zero."
-fn in_per_cent(way: Way, b: BondScale, grown: u64) -> u64
-    requires scale_range { ScaleRange b }
-    requires grown_le_grown_most { grown ≤ grown_most }
-    ensures { result ≡ per_cent_of way b grown }
-{
-    exact::rounded(
-        way,
-        ONE_IN_PER_CENT_HUNDREDTHS * grown.saturating_sub(b.carry + b.accrued),
-        b.face,
-    )
-}
-
-fn limit_of(way: Way, b: BondScale, x: u64, den: u64, k: u64, repo: i64) -> u64
-    requires scale_range { ScaleRange b }
-    requires growth_range { GrowthRange x den k repo }
-    ensures { result ≡ bond_limit_of way b (growing k repo (record { num = x; den = den })) }
-{
-    in_per_cent(way, b, grown_price(x, den, k, repo))
-}
-
-// P·(1 ± rate), which grows with REPORate: the farthest limit, and that of the 20 per cent off the book.
-fn shifted_limit(b: BondScale, side: Side, p: Price, rate: Rate, k: u64) -> u64
-    requires scale_range { ScaleRange b }
-    requires price_range { PriceRange p k }
-    requires bp_le_rate_most { rate.bp ≤ rate_most }
-    ensures { result ≡ bond_limit_of (inward side) b (growing k b.repo (shifted side p.units rate.bp)) }
-{
-    limit_of(
-        limits::inward(side),
-        b,
-        limits::shifted(side, p, rate),
-        ONE_IN_BP,
-        k,
-        b.repo,
-    )
-}
-
-// P·(1 ± S_1/x_pr), which grows with the term's own repo rate: a bond's limits are not moved.
-fn monitored_limit(
+// A bond at a term, in range: what its limits for that term are worked out from. They are not moved.
+#[derive(Clone, Copy)]
+struct AtTerm {
     b: BondScale,
     st: Statics,
-    side: Side,
     p: Price,
     s1: Rate,
-    k: u64,
-    repo: i64,
-) -> u64
-    requires scale_range { ScaleRange b }
-    requires st_value { valid_statics st ≡ true }
-    requires side_range { SideRange p s1 k repo }
-    ensures { result ≡ bond_limit_of (inward side) b (monitored st p.units s1.bp k repo 0 side) }
-{
-    limit_of(
-        limits::inward(side),
-        b,
-        p.units * limits::spread(st, side, s1, 0),
-        ONE_IN_BP * st.xpr,
-        k,
-        repo,
-    )
+    x: Term,
+    ghost scale_range: { ScaleRange b },
+    ghost st_value: { valid_statics st ≡ true },
+    ghost term_range: { TermRange p s1 x },
 }
 
-// ---- a side
+impl AtTerm {
+    // "(.. - Carry - НКД)/FaceValue·100", to two decimals of the per cent, that way; "Negative limits are zero."
+    fn in_per_cent(self, way: Way, grown: u64) -> u64
+        requires { grown ≤ grown_most }
+        ensures { result ≡ per_cent_of way self.b grown }
+    {
+        let b = self.b;
+        exact::rounded(
+            way,
+            ONE_IN_PER_CENT_HUNDREDTHS * grown.saturating_sub(b.carry + b.accrued),
+            b.face,
+        )
+    }
 
-// Each of the two is rounded and then the narrower is taken: a limit keeps order, so that this is the one that the
-// paper takes.
-fn band_limit(b: BondScale, st: Statics, side: Side, p: Price, s1: Rate, k: u64, repo: i64) -> u64
-    requires scale_range { ScaleRange b }
-    requires st_value { valid_statics st ≡ true }
-    requires side_range { SideRange p s1 k repo }
-    ensures { result ≡ band_limit_for (bond b) st p.units s1.bp k repo 0 side }
-{
-    let farthest = shifted_limit(b, side, p, limits::farthest_rate(st, side), k);
-    if st.monitoring {
-        limits::narrower(side, farthest, monitored_limit(b, st, side, p, s1, k, repo))
-    } else {
-        farthest
+    fn limit_of(self, way: Way, x: u64, den: u64, repo: i64) -> u64
+        requires { GrowthRange x den self.x.k repo }
+        ensures { result ≡ bond_limit_of way self.b (growing self.x.k repo (record { num = x; den = den })) }
+    {
+        self.in_per_cent(way, grown_price(x, den, self.x.k, repo))
+    }
+
+    // The term's own repo rate on that side.
+    fn repo(self, side: Side) -> i64
+        ensures { result ≡ repo_of side self.x }
+    {
+        match side {
+            Side::Upper => self.x.high,
+            Side::Lower => self.x.low,
+        }
+    }
+
+    // P·(1 ± rate), which grows with REPORate: the farthest limit, and that of the 20 per cent off the book.
+    fn shifted_limit(self, side: Side, rate: Rate) -> u64
+        requires { rate.bp ≤ rate_most }
+        ensures { result ≡ bond_limit_of (inward side) self.b (growing self.x.k self.b.repo (shifted side self.p.units rate.bp)) }
+    {
+        self.limit_of(
+            limits::inward(side),
+            limits::shifted(side, self.p, rate),
+            ONE_IN_BP,
+            self.b.repo,
+        )
+    }
+
+    // P·(1 ± S_1/x_pr), which grows with the term's own repo rate on that side.
+    fn monitored_limit(self, side: Side) -> u64
+        ensures { result ≡ bond_limit_of (inward side) self.b (monitored self.st self.p.units self.s1.bp self.x.k (repo_of side self.x) 0 side) }
+    {
+        self.limit_of(
+            limits::inward(side),
+            self.p.units * limits::spread(self.st, side, self.s1, 0),
+            ONE_IN_BP * self.st.xpr,
+            self.repo(side),
+        )
+    }
+
+    // Each of the two is rounded and then the narrower is taken: a limit keeps order, so that this is the one that the
+    // paper takes.
+    fn band_limit(self, side: Side) -> u64
+        ensures { result ≡ band_limit_for (bond self.b) self.st self.p.units self.s1.bp self.x.k (repo_of side self.x) 0 side }
+    {
+        let farthest = self.shifted_limit(side, limits::farthest_rate(self.st, side));
+        if self.st.monitoring {
+            limits::narrower(side, farthest, self.monitored_limit(side))
+        } else {
+            farthest
+        }
+    }
+
+    // Off the book: the narrower of the band limit and that of the 20 per cent.
+    fn off_limit(self, side: Side, band: u64) -> u64
+        ensures { result ≡ narrower_of side band (twenty_limit self.b side self.p.units self.x.k) }
+    {
+        limits::narrower(
+            side,
+            band,
+            self.shifted_limit(side, Rate::of(Bond::OFF_BOOK_BP)),
+        )
+    }
+
+    // On the book, and off it.
+    fn limits(self) -> BondLimits
+        ensures { result ≡ limits_from self.b self.st self.p.units self.s1.bp self.x }
+    {
+        let lower = self.band_limit(Side::Lower);
+        let upper = self.band_limit(Side::Upper);
+        BondLimits {
+            band: Limits { lower, upper },
+            off: Limits {
+                lower: self.off_limit(Side::Lower, lower),
+                upper: self.off_limit(Side::Upper, upper),
+            },
+        }
     }
 }
-
-// Off the book: the narrower of the band limit and that of the 20 per cent.
-fn off_limit(b: BondScale, side: Side, p: Price, k: u64, band: u64) -> u64
-    requires scale_range { ScaleRange b }
-    requires price_range { PriceRange p k }
-    ensures { result ≡ narrower_of side band (twenty_limit b side p.units k) }
-{
-    limits::narrower(
-        side,
-        band,
-        shifted_limit(b, side, p, Rate::of(Bond::OFF_BOOK_BP), k),
-    )
-}
-
-// ---- a term
 
 // The limits of a term, from P and S_1.
 pub fn limits_of(b: BondScale, st: Statics, p: Price, s1: Rate, x: Term) -> BondLimits
@@ -133,15 +147,7 @@ pub fn limits_of(b: BondScale, st: Statics, p: Price, s1: Rate, x: Term) -> Bond
     requires term_range { TermRange p s1 x }
     ensures { result ≡ limits_from b st p.units s1.bp x }
 {
-    let lower = band_limit(b, st, Side::Lower, p, s1, x.k, x.low);
-    let upper = band_limit(b, st, Side::Upper, p, s1, x.k, x.high);
-    BondLimits {
-        band: Limits { lower, upper },
-        off: Limits {
-            lower: off_limit(b, Side::Lower, p, x.k, lower),
-            upper: off_limit(b, Side::Upper, p, x.k, upper),
-        },
-    }
+    AtTerm { b, st, p, s1, x }.limits()
 }
 
 // 9: "crossed by the same test", on the book or off it.

@@ -1,13 +1,12 @@
 -- `bond::priced` meets its contract: 9, else the figures.
 use mathlib.Core.Path.{◌≡◌, sym, ap, ◌∙◌}
 use Rattle.paper.specs.declared.Figures.{Figures}
-use Rattle.paper.specs.Lists.{some}
 use Rattle.paper.specs.Ranges.{rate_at}
-use Rattle.paper_bonds.specs.Bonds.{bond_statics, flows_of, bond_figures, all_limits, is_crossed, accepted_bond}
+use Rattle.paper_bonds.specs.Bonds.{bond_statics, bond_figures, accepted_bond}
 use Rattle.bond.proofs.Facts.{volatility_ranges}
-use Rattle.bond.proofs.Answers.{answers_band_crossed, answers_figures}
+use Rattle.bond.proofs.Answers.{answers_band_crossed, answers_figures, crossed_is}
 use Rattle.bond.proofs.priced.Goals as goal
-use Rattle.bond.proofs.priced.Goals.{After-figures_by_volatility-figures, After-some_crossed, After-statics_of-st}
+use Rattle.bond.proofs.priced.Goals.{After-figures_by_volatility-figures, After-statics_of-st}
 
 statics_are : (c : After-statics_of-st) → c.statics_of-st.result ≡ bond_statics c.before.before.before.args.b
 statics_are c = rw c.before.given_of.ensures at c.statics_of-st.ensures
@@ -18,33 +17,30 @@ figures_are : (c : After-figures_by_volatility-figures)
 unfolding bond_figures
 figures_are c = rw (statics_are c.before.before) at c.figures_by_volatility-figures.ensures
 
--- whether a term is crossed is what the paper asks
-crossed_is : (c : After-some_crossed)
-    → let start = c.before.before.before.before.before.before.before.before.before.before in
-    c.some_crossed.result ≡ some is_crossed (all_limits start.args.b (flows_of start.args.flows.now))
-crossed_is c = rw c.before.all_limits-limits.ensures at c.some_crossed.ensures
-
 pub figures_by_volatility-figures-requires : goal.figures_by_volatility-figures-requires
 figures_by_volatility-figures-requires c =
     rw (statics_are (goal.at.figures_by_volatility-figures-requires c).After-statics_of-st) (volatility_ranges c.args.b c.requires.price_known.valid)
 
-pub all_limits-limits-requires : goal.all_limits-limits-requires
-all_limits-limits-requires c =
+pub invariant_of-all_limits : goal.invariant_of-all_limits
+invariant_of-all_limits c =
     record {
       price_known = c.requires.price_known;
       figured = record {
-        statics = statics_are (goal.at.all_limits-limits-requires c).After-statics_of-st;
+        statics = statics_are (goal.at.invariant_of-all_limits c).After-statics_of-st;
         price = c.requires.units_value;
-        rate = ap (λ (x : Figures). rate_at x.rates 0) (figures_are (goal.at.all_limits-limits-requires c).After-figures_by_volatility-figures);
+        rate = ap (λ (x : Figures). rate_at x.rates 0) (figures_are (goal.at.invariant_of-all_limits c).After-figures_by_volatility-figures);
       };
     }
 
 pub returns-then-some_crossed : goal.returns-then-some_crossed
 returns-then-some_crossed c =
-    c.refused.ensures ∙ answers_band_crossed _ _ c.requires.price_known (sym (crossed_is (goal.at.returns-then-some_crossed c).After-some_crossed) ∙ c.if-some_crossed.true)
+    c.refused.ensures
+    ∙ answers_band_crossed _ _ c.requires.price_known
+    (sym (crossed_is _ _ _ c.some_crossed.ensures c.all_limits-limits.ensures) ∙ c.if-some_crossed.true)
 
 pub returns : goal.returns
 unfolding accepted_bond
 returns c =
     rw (c.requires.units_value, figures_are (goal.at.returns c).After-figures_by_volatility-figures, c.all_limits-limits.ensures)
-    (answers_figures _ _ c.requires.price_known (sym (crossed_is (goal.at.returns c).After-some_crossed) ∙ c.if-some_crossed.false))
+    (answers_figures _ _ c.requires.price_known
+    (sym (crossed_is _ _ _ c.some_crossed.ensures c.all_limits-limits.ensures) ∙ c.if-some_crossed.false))
