@@ -1,11 +1,11 @@
--- One turn of each loop, as laws over lists and numbers: `Storing`, of the loop that stores the numbers of a row,
--- and `Reads`, of the loop that goes from line to line. Each says what holds at the start, what a turn adds and what
--- holds at the end.
+-- One turn of the loop that goes from line to line, as laws over lists and numbers: what holds at the start, what a turn
+-- adds and what holds at the end.
 use mathlib.Core.Path.{◌≡◌, refl, sym, ap, ap₂, ◌∙◌}
-use mathlib.Core.Bool.{true}
+use mathlib.Core.Bool.{true, false}
 use mathlib.Core.List.{List, [], ◌∷◌, ◌++◌, append_assoc, append-nil}
 use Prim.Native.Nat.{ℕ, zero, suc, ◌+◌, ◌-◌, ◌*◌, ◌≤◌, ◌<◌}
 use native.Mathlib.Omega.{arith}
+use lib.Dec.{eqb}
 use lib.IntN.{ℤ, pos}
 use lib.ListN.{length, drop, get_or, set, replicate, length-replicate, length-append, length-drop}
 use lib.ListN.{drop_of_length-le}
@@ -23,41 +23,12 @@ use Rattle.exchange_protocol.proofs.Lines.{ended_reads, line_back, row_has_seven
 use Rattle.exchange_protocol.proofs.Walk.{Sofar, none_yet, own_row, other_row, ends_no_row, ends_seventeenth}
 use Rattle.exchange_protocol.proofs.Walk.{ends_unended}
 use Rattle.exchange_protocol.proofs.Walk.{ends_good}
-use Rattle.exchange_text.specs.declared.row.Place.{Place}
-use Rattle.exchange_text.specs.declared.row.Place.TheVariants as place
-use Rattle.exchange_text.specs.Lines.{place_front, PlaceIn, Lined}
-
--- ---- a row is stored
-
-pub record Storing (at : ℕ) (zs rows out : List ℤ) (j : ℕ) : Type 0 where
-  pub in_seven : j ≤ row_numbers
-  pub long : length zs ≡ line_numbers
-  pub rest : sets out (row_numbers * at + j) (drop (j + 1) zs) ≡ sets rows (row_numbers * at) (drop 1 zs)
-
-pub storing_none : (at : ℕ) (zs rows : List ℤ) → length zs ≡ line_numbers → Storing at zs rows rows 0
-storing_none at zs rows h =
-    let e : row_numbers * at + 0 ≡ row_numbers * at = omega arith in
-    record { in_seven = omega arith; long = h; rest = rw e }
-
-module _ (at : ℕ) (zs rows out : List ℤ) (j : ℕ) (p : Storing at zs rows out j) where
-  pub storing_more : j < row_numbers → Storing at zs rows (set out (row_numbers * at + j) (get_or zs (j + 1) (pos 0)))
-      (j + 1)
-  storing_more h =
-      let l : j + 1 < length zs = omega (arith, p.long) in
-      let f : row_numbers * at + (j + 1) ≡ suc (row_numbers * at + j) = omega arith in
-      let g : j + 1 + 1 ≡ suc (j + 1) = omega arith in
-      record {
-        in_seven = omega arith;
-        long = p.long;
-        rest = rw (f, g) (rw (drop-cons zs (j + 1) (pos 0) l) at p.rest);
-      }
-
-  pub storing_all : row_numbers ≤ j → out ≡ sets rows (row_numbers * at) (drop 1 zs)
-  storing_all h =
-      let l : length zs ≤ j + 1 = omega (arith, p.long) in
-      rw (drop_of_length-le zs l) at p.rest
 
 -- ---- line after line
+
+pub some_left : (n : ℕ) → false ≡ eqb n 0 → 0 < n
+some_left zero e = impossible cc
+some_left (suc n) e = omega arith
 
 feed_only : (b : ℕ) → is_line_feed b ≡ true → b ≡ line_feed
 unfolding is_line_feed
@@ -98,34 +69,30 @@ module _ (id : ℕ) (t : List ℕ) where
     bad_step f n = behind (λ q ps i. ends_no_row id t f k rows p q ps (opened q ps i) n)
 
 -- how the loop stands: `number` is the next line's, and the array has the rows and zeros
-pub record Reads (id : ℕ) (t : List ℕ) (array zs : List ℤ) (from number count : ℕ) : Type 0 where
+pub record Reads (id : ℕ) (t : List ℕ) (array : List ℤ) (rest : List ℕ) (number count : ℕ) : Type 0 where
   pub rows : List (List ℤ)
   pub k : ℕ
-  pub in_t : from ≤ length t
   pub fits : length t ≤ text_most
-  pub few_lines : k ≤ from
+  pub few_lines : k + length rest ≤ length t
   pub next : number ≡ suc k
   pub counts : count ≡ length rows
   pub sevens : length (in_one rows) ≡ row_numbers * length rows
   pub holds : array ≡ in_one rows ++ replicate (all_numbers_most - row_numbers * length rows) (pos 0)
-  pub long : length zs ≡ line_numbers
-  pub sofar : Sofar id (pieces is_line_feed t) (pieces is_line_feed (drop from t)) k rows
+  pub sofar : Sofar id (pieces is_line_feed t) (pieces is_line_feed rest) k rows
 
 pub reads_none : (id : ℕ) (t : List ℕ) → length t ≤ text_most
-    → Reads id t (replicate all_numbers_most (pos 0)) (replicate line_numbers (pos 0)) 0 1 0
+    → Reads id t (replicate all_numbers_most (pos 0)) t 1 0
 unfolding in_one
 reads_none id t h =
     record {
       rows = [];
       k = 0;
-      in_t = omega arith;
       fits = h;
       few_lines = omega arith;
       next = refl;
       counts = refl;
       sevens = refl;
       holds = refl;
-      long = refl;
       sofar = none_yet id (pieces is_line_feed t) (pieces is_line_feed t) refl;
     }
 
@@ -151,130 +118,113 @@ stored a row n m h l =
     sets-eq row (a ++ z) n o
     ∙ ap₂ (λ (x y : List ℤ). (x ++ row) ++ y) (take_at a z n h) d
 
-module _ (id : ℕ) (t : List ℕ) (array zs : List ℤ) (from number count : ℕ) (s : Reads id t array zs from number count)
+module _ (id : ℕ) (t : List ℕ) (array : List ℤ) (rest : List ℕ) (number count : ℕ) (s : Reads id t array rest number count)
   where
-    pub reads_all : length t ≤ from → Says id t (record { verdict = Done; line = 0; count = count; rows = array })
+    pub reads_all : length rest ≡ 0 → Says id t (record { verdict = Done; line = 0; count = count; rows = array })
     unfolding accepted pieces
     reads_all h =
-        let e : pieces is_line_feed (drop from t) ≡ [] ∷ [] = rw (drop_of_length-le t h) in
+        let e : pieces is_line_feed rest ≡ [] ∷ [] = rw (empty_is rest h) in
         rw (s.counts, s.holds)
         (ends_good id t s.fits s.k s.rows [] (rw e at s.sofar) refl)
+      where
+        empty_is : (u : List ℕ) → length u ≡ 0 → u ≡ []
+        empty_is [] e = refl
+        empty_is (b ∷ u) e = absurd (omega arith)
 
-    pub number_fits : from < length t → number < text_most + 1
-    number_fits h = omega (arith, s.next, s.few_lines, s.fits)
+    pub number_fits : number ≤ text_most + 1
+    number_fits = omega (arith, s.next, s.few_lines, s.fits)
 
-    module _ (h : from < length t) (ys : List ℤ) (r : Place) (l : Lined t ys r (line (drop from t))) where
-      pub reads_bad : r ≡ place.Bad → Says id t (refused number)
-      unfolding place_front
-      reads_bad q = rw s.next (go (drop from t) refl (parted is_line_feed (drop from t)))
-        where
-          none_here : none ≡ line (drop from t)
-          none_here = rw q at l.is
+    pub reads_bad : 0 < length rest → none ≡ line rest → Says id t (refused number)
+    reads_bad h none_here = rw s.next (go rest refl (parted is_line_feed rest))
+      where
+        go : (v : List ℕ) → rest ≡ v → Parted is_line_feed v → Says id t (refused (suc s.k))
+        go v e (all f) =
+            let o : 0 < length v = rw (← e) h in
+            ends_unended id t s.fits s.k s.rows v (rw (e, pieces_none is_line_feed f) at s.sofar) o
+        go _ e (more {p} {b} v f g) =
+            let i : b ≡ line_feed = feed_only b g in
+            let j : rest ≡ p ++ line_feed ∷ v = e ∙ ap (λ (x : ℕ). p ++ x ∷ v) i in
+            bad_step id t rest v p s.k s.rows s.sofar
+            (ap (pieces is_line_feed) e ∙ pieces_more is_line_feed v f g) s.fits
+            (λ n row x. no_line p v j n row x)
+          where
+            no_line : (p v : List ℕ) → rest ≡ p ++ line_feed ∷ v → (n : ℕ) (row : List ℤ) → Ended p n row → ⊥
+            no_line p v j n row x =
+                let y : none ≡ front (pos n ∷ row) v = none_here ∙ ap line j ∙ ended_reads v x in
+                impossible cc
 
-          go : (v : List ℕ) → drop from t ≡ v → Parted is_line_feed v → Says id t (refused (suc s.k))
-          go v e (all f) =
-              let o : 0 < length v = rw (← e, length-drop from t) (omega arith) in
-              ends_unended id t s.fits s.k s.rows v (rw (e, pieces_none is_line_feed f) at s.sofar) o
-          go _ e (more {p} {b} v f g) =
-              let i : b ≡ line_feed = feed_only b g in
-              let j : drop from t ≡ p ++ line_feed ∷ v = e ∙ ap (λ (x : ℕ). p ++ x ∷ v) i in
-              bad_step id t (drop from t) v p s.k s.rows s.sofar
-              (ap (pieces is_line_feed) e ∙ pieces_more is_line_feed v f g) s.fits
-              (λ n row x. no_line p v j n row x)
-            where
-              no_line : (p v : List ℕ) → drop from t ≡ p ++ line_feed ∷ v → (n : ℕ) (row : List ℤ) → Ended p n row → ⊥
-              no_line p v j n row x =
-                  let y : none ≡ front (pos n ∷ row) v = none_here ∙ ap line j ∙ ended_reads v x in
-                  impossible cc
+    module _ (ys : List ℤ) (behind : List ℕ) (l : front ys behind ≡ line rest) where
+      found : WrittenLine rest ys behind
+      found = line_back rest ys behind (sym l)
 
-      module _ (next : ℕ) (q : r ≡ place.At next) where
-        found : WrittenLine (drop from t) ys (drop next t)
-        unfolding place_front
-        found = line_back (drop from t) ys (drop next t) (sym (rw q at l.is))
+      pub further : length behind < length rest
+      further = omega (arith, ap length found.is ∙ length-append found.p (line_feed ∷ behind))
 
-        in_text : next ≤ length t
-        unfolding PlaceIn
-        in_text = rw q at l.inside
+      piece : pieces is_line_feed rest ≡ found.p ∷ pieces is_line_feed behind
+      piece = ap (pieces is_line_feed) found.is ∙ pieces_more is_line_feed behind found.unbroken feed_is
 
-        pub further : from < next
-        further =
-            omega (
-              arith,
-              ap length found.is ∙ length-append found.p (line_feed ∷ drop next t),
-              length-drop from t,
-              length-drop next t,
-              in_text,
-            )
+      id_is : unsigned (get_or ys 0 (pos 0)) ≡ found.id
+      unfolding unsigned
+      id_is = ap (λ (x : List ℤ). unsigned (get_or x 0 (pos 0))) found.numbers
 
-        piece : pieces is_line_feed (drop from t) ≡ found.p ∷ pieces is_line_feed (drop next t)
-        piece = ap (pieces is_line_feed) found.is ∙ pieces_more is_line_feed (drop next t) found.unbroken feed_is
+      pub reads_other : (unsigned (get_or ys 0 (pos 0)) ≡ id → ⊥) → Reads id t array behind (number + 1) count
+      reads_other n =
+          record {
+            rows = s.rows;
+            k = suc s.k;
+            fits = s.fits;
+            few_lines = omega (arith, s.few_lines, further);
+            next = omega (arith, s.next);
+            counts = s.counts;
+            sevens = s.sevens;
+            holds = s.holds;
+            sofar =
+                other_step id t rest behind found.p s.k s.rows s.sofar piece
+                found.ended
+                (λ e. n (id_is ∙ e));
+          }
 
-        id_is : unsigned (get_or ys 0 (pos 0)) ≡ found.id
-        unfolding unsigned
-        id_is = ap (λ (x : List ℤ). unsigned (get_or x 0 (pos 0))) found.numbers
+      module _ (own : unsigned (get_or ys 0 (pos 0)) ≡ id) where
+        ended : Ended found.p id found.row
+        ended = rw (sym id_is ∙ own) at found.ended
 
-        pub reads_other : (unsigned (get_or ys 0 (pos 0)) ≡ id → ⊥) → Reads id t array ys next (number + 1) count
-        reads_other n =
+        pub reads_seventeenth : rows_most ≤ count → Says id t (refused number)
+        reads_seventeenth g =
+            rw s.next
+            (full_step id t rest behind found.p s.k s.rows s.sofar piece s.fits ended
+            (omega (arith, s.counts)))
+
+        pub reads_own : count < rows_most → (after : List ℤ) → after ≡ sets array (row_numbers * count) (drop 1 ys)
+            → Reads id t after behind (number + 1) (count + 1)
+        reads_own g after e =
+            let c : count ≡ length s.rows = s.counts in
+            let m : length (s.rows ++ found.row ∷ []) ≡ length s.rows + 1 =
+            length-append s.rows (found.row ∷ []) in
+            let w : length found.row ≡ row_numbers = row_has_seven ended in
+            let i : drop 1 ys ≡ found.row = ap (λ (x : List ℤ). drop 1 x) found.numbers in
+            let j : in_one (s.rows ++ found.row ∷ []) ≡ in_one s.rows ++ found.row =
+            in_one_more s.rows found.row in
+            let n : ℕ = all_numbers_most - row_numbers * (length s.rows + 1) in
+            let o : all_numbers_most - row_numbers * length s.rows ≡ row_numbers + n = omega arith in
+            let a : length (in_one s.rows) ≡ row_numbers * count = s.sevens
+            ∙ ap (λ (x : ℕ). row_numbers * x) (sym c) in
             record {
-              rows = s.rows;
+              rows = s.rows ++ found.row ∷ [];
               k = suc s.k;
-              in_t = in_text;
               fits = s.fits;
               few_lines = omega (arith, s.few_lines, further);
               next = omega (arith, s.next);
-              counts = s.counts;
-              sevens = s.sevens;
-              holds = s.holds;
-              long = l.long;
+              counts = omega (arith, c, m);
+              sevens = ap length j ∙ length-append (in_one s.rows) found.row ∙ omega (arith, s.sevens, w, m);
+              holds =
+                  e ∙ ap (λ (x : List ℤ). sets x (row_numbers * count) (drop 1 ys))
+                  (s.holds ∙ ap (λ (x : ℕ). in_one s.rows ++ replicate x (pos 0)) o)
+                  ∙ ap (λ (x : List ℤ). sets (in_one s.rows ++ replicate (row_numbers + n) (pos 0))
+                  (row_numbers * count) x) i
+                  ∙ stored (in_one s.rows) found.row (row_numbers * count) n a w
+                  ∙ ap₂ (λ (x : List ℤ) (y : ℕ). x ++ replicate (all_numbers_most - row_numbers * y) (pos 0)) (sym j)
+                  (sym m);
               sofar =
-                  other_step id t (drop from t) (drop next t) found.p s.k s.rows s.sofar piece
-                  found.ended
-                  (λ e. n (id_is ∙ e));
+                  own_step id t rest behind found.p s.k s.rows s.sofar piece ended
+                  (omega (arith, c));
             }
-
-        module _ (own : unsigned (get_or ys 0 (pos 0)) ≡ id) where
-          ended : Ended found.p id found.row
-          ended = rw (sym id_is ∙ own) at found.ended
-
-          pub reads_seventeenth : rows_most ≤ count → Says id t (refused number)
-          reads_seventeenth g =
-              rw s.next
-              (full_step id t (drop from t) (drop next t) found.p s.k s.rows s.sofar piece s.fits ended
-              (omega (arith, s.counts)))
-
-          pub reads_own : count < rows_most → (after : List ℤ) → after ≡ sets array (row_numbers * count) (drop 1 ys)
-              → Reads id t after ys next (number + 1) (count + 1)
-          reads_own g after e =
-              let c : count ≡ length s.rows = s.counts in
-              let m : length (s.rows ++ found.row ∷ []) ≡ length s.rows + 1 =
-              length-append s.rows (found.row ∷ []) in
-              let w : length found.row ≡ row_numbers = row_has_seven ended in
-              let i : drop 1 ys ≡ found.row = ap (λ (x : List ℤ). drop 1 x) found.numbers in
-              let j : in_one (s.rows ++ found.row ∷ []) ≡ in_one s.rows ++ found.row =
-              in_one_more s.rows found.row in
-              let n : ℕ = all_numbers_most - row_numbers * (length s.rows + 1) in
-              let o : all_numbers_most - row_numbers * length s.rows ≡ row_numbers + n = omega arith in
-              let a : length (in_one s.rows) ≡ row_numbers * count = s.sevens
-              ∙ ap (λ (x : ℕ). row_numbers * x) (sym c) in
-              record {
-                rows = s.rows ++ found.row ∷ [];
-                k = suc s.k;
-                in_t = in_text;
-                fits = s.fits;
-                few_lines = omega (arith, s.few_lines, further);
-                next = omega (arith, s.next);
-                counts = omega (arith, c, m);
-                sevens = ap length j ∙ length-append (in_one s.rows) found.row ∙ omega (arith, s.sevens, w, m);
-                holds =
-                    e ∙ ap (λ (x : List ℤ). sets x (row_numbers * count) (drop 1 ys))
-                    (s.holds ∙ ap (λ (x : ℕ). in_one s.rows ++ replicate x (pos 0)) o)
-                    ∙ ap (λ (x : List ℤ). sets (in_one s.rows ++ replicate (row_numbers + n) (pos 0))
-                    (row_numbers * count) x) i
-                    ∙ stored (in_one s.rows) found.row (row_numbers * count) n a w
-                    ∙ ap₂ (λ (x : List ℤ) (y : ℕ). x ++ replicate (all_numbers_most - row_numbers * y) (pos 0)) (sym j)
-                    (sym m);
-                long = l.long;
-                sofar =
-                    own_step id t (drop from t) (drop next t) found.p s.k s.rows s.sofar piece ended
-                    (omega (arith, c));
-              }

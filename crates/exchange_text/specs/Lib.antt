@@ -1,3 +1,2 @@
 -- The definitions of exchange_text, a file each.
-pub mod Placed
-pub mod Lines
+pub mod Fronts

@@ -1,216 +1,160 @@
-// A field of the exchange's text, lent with the text that it stands in: its number, and where it ends. Nothing is
-// copied: a field ends at the first byte that is none of its number's. Each function has one caller, or is short, so
-// that the compiler makes one loop over the fields of them.
-ghost use Rattle.std.specs.Prelude.{◌≡◌, true, ◌&&◌, ◌+◌, ◌*◌, ◌-◌, ◌^◌, ◌≤◌, eqb, length, drop};
+// A field of the exchange's text, in front of a lent text: its number, and the text behind it. Nothing is copied: a
+// field ends at the first byte that is none of its number's. Each function has one caller, or is short, so that the
+// compiler makes one loop over the fields of them.
+ghost use Rattle.std.specs.Prelude.{◌≡◌, false, ◌&&◌, ◌∷◌, ◌+◌, ◌*◌, ◌^◌, ◌≤◌, eqb, length, drop, IfSome, MatchOption};
+ghost use Rattle.std.specs.List.{prefix_len};
 ghost use Rattle.paper.specs.Lists.{pick};
-ghost use Rattle.text_bytes.specs.Bytes.{minus_sign};
+ghost use Rattle.text_bytes.specs.Bytes.{minus_sign, digit_zero};
 ghost use Rattle.text_bytes.specs.Numbers.{is_digit};
-ghost use Rattle.exchange_protocol.specs.Scan.{front, starts, number_most, digits, past_zeros, behind_zeros, decimals};
-ghost use Rattle.exchange_protocol.specs.Scan.{number};
-ghost use Rattle.exchange_protocol.specs.Scan.{cell};
-ghost use Rattle.exchange_text.specs.Placed.{Stops, Took, Numbered, Celled};
+ghost use Rattle.exchange_protocol.specs.Scan.{starts, number_most, digits, past_zeros, behind_zeros, decimals};
+ghost use Rattle.exchange_protocol.specs.Scan.{number, cell, pass};
+ghost use Rattle.exchange_text.specs.Fronts.{front_of, passed_of};
 
 use exchange_protocol::Column;
 use paper::Price;
-use text_bytes::{DIGIT_NINE, DIGIT_ZERO};
-
-// A number in front of a text, and where it ends.
-#[derive(Clone, Copy)]
-pub enum Part {
-    Is(u64, usize),
-    Bad,
-}
-
-// A field, and where it ends.
-#[derive(Clone, Copy)]
-pub enum Cell {
-    Is(i64, usize),
-    Bad,
-}
 
 // No range of a row holds a greater number than a price's.
 const NUMBER_MOST: u64 = Price::MOST_UNITS;
 
-fn wide(b: u8) -> u64
-    ensures { result ≡ b }
+// Behind the byte b, if it stands in front.
+#[tactic(auto, unfolding(exchange_protocol::specs::Scan::pass, exchange_protocol::specs::Scan::starts))]
+pub fn pass(text: &[u8], b: u8) -> Option<&[u8]>
+    ensures { passed_of result ≡ pass b text.now }
 {
-    b as u64
+    let (first, rest) = text.split_first()?;
+    if *first == b { Some(rest) } else { None }
 }
 
-// Whether the byte b stands at a place.
-pub fn is_at(t: &[u8], at: usize, b: u8) -> bool
-    requires { at ≤ length t.now }
-    ensures { result ≡ starts (λ x. eqb x b) (drop at t.now) }
+// The digit in front, and the text behind it.
+#[tactic(auto, unfolding(exchange_protocol::specs::Scan::starts, text_bytes::specs::Numbers::is_digit))]
+fn first_digit(text: &[u8]) -> Option<(u64, &[u8])>
+    ensures { MatchOption result (starts is_digit text.now ≡ false)
+        (λ p. (text.now ≡ (digit_zero + p.0) ∷ p.1.now) × (p.0 ≤ 9)) }
 {
-    if at < t.len() {
-        return t[at] == b;
+    let (first, rest) = text.split_first()?;
+    if first.is_ascii_digit() {
+        Some((u64::from(*first - b'0'), rest))
+    } else {
+        None
     }
-    false
 }
 
-fn is_digit_at(t: &[u8], at: usize) -> bool
-    requires { at ≤ length t.now }
-    ensures { result ≡ starts is_digit (drop at t.now) }
+// At most so many digits, behind those of `whole`.
+fn digits(text: &[u8], most: usize, whole: u64) -> Option<(u64, &[u8])>
+    requires { whole ≤ number_most }
+    ensures reads { front_of result ≡ digits most whole text.now }
+    ensures small { IfSome result (λ p. p.0 ≤ number_most) }
+    ensures few { IfSome result (λ p. (length p.1.now ≤ length text.now) × (length text.now ≤ length p.1.now + most)) }
 {
-    if at < t.len() {
-        let b = wide(t[at]);
-        return (DIGIT_ZERO <= b) & (b <= DIGIT_NINE);
-    }
-    false
-}
-
-// Where at most so many bytes from `from` on end.
-fn stop_of(t: &[u8], from: usize, most: usize) -> usize
-    requires { from ≤ length t.now }
-    ensures { Stops t.now from most result }
-{
-    if most < t.len() - from {
-        return from + most;
-    }
-    t.len()
-}
-
-// The digits from `from` on, at most so many, behind those of x. Whether there are enough of them and whether the text
-// ends are one test.
-fn digits(t: &[u8], from: usize, most: usize, x: u64) -> Part
-    requires { (from ≤ length t.now) × (x ≤ number_most) }
-    ensures { Took t.now from most result (digits most x (drop from t.now)) }
-{
-    let stop = stop_of(t, from, most);
-    let mut i = from;
-    let mut n = x;
-    while i < stop {
-        let b = wide(t[i]);
-        if b < DIGIT_ZERO {
-            return Part::Is(n, i);
+    let stop = most.min(text.len());
+    let mut n = whole;
+    for (i, b) in text[..stop].iter().enumerate() {
+        if !b.is_ascii_digit() {
+            return Some((n, &text[i..]));
         }
-        if DIGIT_NINE < b {
-            return Part::Is(n, i);
+        n = 10 * n + u64::from(*b - b'0');
+        if NUMBER_MOST < n {
+            return None;
         }
-        let y = 10 * n + (b - DIGIT_ZERO);
-        if NUMBER_MOST < y {
-            return Part::Bad;
-        }
-        n = y;
-        i += 1;
     }
-    Part::Is(n, i)
+    Some((n, &text[stop..]))
 }
 
-// The end of the zeros from `from` on.
-fn past_zeros(t: &[u8], from: usize) -> usize
-    requires { from ≤ length t.now }
-    ensures { (drop result t.now ≡ past_zeros (drop from t.now))
-        × (result ≤ length t.now) }
+// How many zeros stand in front.
+fn zeros(text: &[u8]) -> usize
+    ensures are { result ≡ prefix_len (λ b. eqb b digit_zero) text.now }
+    ensures few { result ≤ length text.now }
 {
-    let mut i = from;
-    while i < t.len() {
-        if t[i] != b'0' {
-            return i;
-        }
-        i += 1;
-    }
-    i
+    text.iter().take_while(|b| **b == b'0').count()
+}
+
+// Behind the zeros.
+fn past_zeros(text: &[u8]) -> &[u8]
+    ensures { result.now ≡ past_zeros text.now }
+{
+    &text[zeros(text)..]
 }
 
 // The same, where the column may have zeros there.
-fn behind_zeros(t: &[u8], from: usize, c: Column) -> usize
-    requires { from ≤ length t.now }
-    ensures { (drop result t.now ≡ behind_zeros c (drop from t.now))
-        × (result ≤ length t.now) }
+fn behind_zeros(text: &[u8], column: Column) -> &[u8]
+    ensures { result.now ≡ behind_zeros column text.now }
 {
-    if c.zeros {
-        return past_zeros(t, from);
-    }
-    from
+    if column.zeros { past_zeros(text) } else { text }
 }
+
+// The powers of ten that a unit may need.
+const POWERS: [u64; 5] = [1, 10, 100, 1_000, 10_000];
 
 fn ten_to(k: usize) -> u64
     requires { k ≤ 4 }
-    ensures { (result ≡ 10 ^ k) × (result ≤ 10000) }
+    ensures is { result ≡ 10 ^ k }
+    ensures small { result ≤ 10000 }
 {
-    if k == 0 {
-        return 1;
-    }
-    if k == 1 {
-        return 10;
-    }
-    if k == 2 {
-        return 100;
-    }
-    if k == 3 {
-        return 1_000;
-    }
-    10_000
+    POWERS[k]
 }
 
-// What stands behind the point, where n stands before it.
-fn decimals(t: &[u8], from: usize, c: Column, n: u64) -> Part
-    requires { (from ≤ length t.now) × (n ≤ number_most) × (c.places ≤ 4) }
-    ensures { Numbered t.now result (decimals c n (drop from t.now)) }
+// What stands behind the point, where `whole` stands before it.
+fn decimals(text: &[u8], column: Column, whole: u64) -> Option<(u64, &[u8])>
+    requires { (whole ≤ number_most) × (column.places ≤ 4) }
+    ensures reads { front_of result ≡ decimals column whole text.now }
+    ensures small { IfSome result (λ p. p.0 ≤ 10000 * number_most) }
 {
-    let places = c.places;
-    let part = digits(t, from, places, n);
-    let Part::Is(v, e) = part else {
-        return Part::Bad;
-    };
-    let end = behind_zeros(t, e, c);
-    if end <= from {
-        return Part::Bad;
+    let (number, rest) = digits(text, column.places, whole)?;
+    let behind = behind_zeros(rest, column);
+    if text.len() <= behind.len() {
+        return None;
     }
-    Part::Is(v * ten_to(places - (e - from)), end)
+    Some((
+        number * ten_to(column.places - (text.len() - rest.len())),
+        behind,
+    ))
 }
 
-// A decimal of the column, in its unit: a digit stands in front.
-fn number(t: &[u8], from: usize, c: Column) -> Part
-    requires { (from ≤ length t.now) × (true ≡ starts is_digit (drop from t.now)) × (c.places ≤ 4) }
-    ensures { Numbered t.now result (number c (drop from t.now)) }
+// A decimal of the column, in its unit, behind its first digit.
+fn number(text: &[u8], column: Column, first: u64) -> Option<(u64, &[u8])>
+    requires { (first ≤ 9) × (column.places ≤ 4) }
+    ensures reads { front_of result ≡ number column ((digit_zero + first) ∷ text.now) }
+    ensures small { IfSome result (λ p. p.0 ≤ 10000 * number_most) }
 {
-    let places = c.places;
-    let first = wide(t[from]) - DIGIT_ZERO;
-    let part = digits(t, from + 1, t.len() - (from + 1), first);
-    let Part::Is(n, e) = part else {
-        return Part::Bad;
-    };
-    if is_at(t, e, b'.') {
-        return decimals(t, e + 1, c, n);
+    let (whole, rest) = digits(text, text.len(), first)?;
+    if let Some(behind) = pass(rest, b'.') {
+        return decimals(behind, column, whole);
     }
-    Part::Is(n * ten_to(places), e)
+    Some((whole * ten_to(column.places), rest))
 }
 
 // Behind a minus, where the column may have one and it stands there.
-fn behind_minus(t: &[u8], from: usize, c: Column) -> usize
-    requires { from ≤ length t.now }
-    ensures { (result ≡ pick (c.minus && starts (λ x. eqb x minus_sign) (drop from t.now)) (from + 1) from)
-        × (result ≤ length t.now) }
+#[tactic(auto, unfolding(exchange_protocol::specs::Scan::pass))]
+fn behind_minus(text: &[u8], column: Column) -> &[u8]
+    ensures { result.now ≡ pick (column.minus && starts (λ x. eqb x minus_sign) text.now) (drop 1 text.now) text.now }
 {
-    if c.minus {
-        if is_at(t, from, b'-') {
-            return from + 1;
-        }
+    if column.minus {
+        pass(text, b'-').unwrap_or(text)
+    } else {
+        text
     }
-    from
 }
 
-// The field that begins at `from`. A digit is looked for first, since nearly every field has one in front.
-pub fn read_cell(t: &[u8], from: usize, c: Column) -> Cell
-    requires { (from ≤ length t.now) × (c.places ≤ 4) }
-    ensures { Celled t.now result (cell c (drop from t.now)) }
+// The field in front. A digit is looked for first, since nearly every field has one in front.
+pub fn read_cell(text: &[u8], column: Column) -> Option<(i64, &[u8])>
+    requires { column.places ≤ 4 }
+    ensures { front_of result ≡ cell column text.now }
 {
-    let start = behind_minus(t, from, c);
-    if is_digit_at(t, start) {
-        let part = number(t, start, c);
-        let Part::Is(v, e) = part else {
-            return Cell::Bad;
-        };
-        if from < start {
-            return Cell::Is(0 - (v as i64), e);
-        }
-        return Cell::Is(v as i64, e);
+    let start = behind_minus(text, column);
+    if let Some((first, behind)) = first_digit(start) {
+        let (number, rest) = number(behind, column, first)?;
+        let size = number as i64;
+        return Some((
+            if start.len() < text.len() {
+                -size
+            } else {
+                size
+            },
+            rest,
+        ));
     }
-    let empty = c.empty;
-    if empty & (start == from) {
-        return Cell::Is(0, from);
+    if column.empty && start.len() == text.len() {
+        return Some((0, text));
     }
-    Cell::Bad
+    None
 }

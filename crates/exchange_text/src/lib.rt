@@ -5,12 +5,10 @@
 mod cell; // a field
 pub mod row; // a line
 
-ghost use Rattle.std.specs.Prelude.{◌≡◌, ◌*◌, ◌≤◌, ◌<◌, length, drop};
-ghost use Rattle.std.proofs.lemmas.List.Edits.{sets};
-ghost use Rattle.paper.specs.Numbers.{row_numbers};
-ghost use Rattle.exchange_protocol.specs.Exchange.{line_numbers, rows_most, refused, Says};
+ghost use Rattle.std.specs.Prelude.{◌≡◌, length};
+ghost use Rattle.exchange_protocol.specs.Exchange.{refused, Says};
 
-use crate::row::{FIELDS, Place, read_line};
+use crate::row::{put_row, read_line};
 use exchange_protocol::Reading;
 use paper::{Row, Verdict};
 
@@ -21,28 +19,15 @@ pub const TEXT_MOST: usize = 65_536;
 pub const ROWS_MOST: usize = Row::ALL_NUMBERS_MOST / Row::NUMBERS;
 
 // "15, bad line, with its line number"
+#[tactic(auto, unfolding(exchange_protocol::specs::Exchange::refused))]
 fn refused(line: u64) -> Reading
     ensures { result ≡ refused line }
 {
-    let rows: [i64; Row::ALL_NUMBERS_MOST] = [0; Row::ALL_NUMBERS_MOST];
     Reading {
         verdict: Verdict::BadLine,
         line,
         count: 0,
-        rows,
-    }
-}
-
-// The seven numbers of a line behind its id, as the row `at`.
-fn put_row(rows: &mut [i64; Row::ALL_NUMBERS_MOST], at: usize, zs: &[i64])
-    requires { (at < rows_most) × (length zs.now ≡ line_numbers) }
-    ensures { rows.new ≡ sets rows.old (row_numbers * at) (drop 1 zs.now) }
-{
-    let first = Row::NUMBERS * at;
-    let mut j = 0;
-    while j < Row::NUMBERS {
-        rows[first + j] = zs[j + 1];
-        j += 1;
+        rows: [0; Row::ALL_NUMBERS_MOST],
     }
 }
 
@@ -53,28 +38,24 @@ pub fn read_exchange(t: &[u8], id: u64) -> Reading
     if TEXT_MOST < t.len() {
         return refused(0);
     }
-    let mut rows: [i64; Row::ALL_NUMBERS_MOST] = [0; Row::ALL_NUMBERS_MOST];
-    let mut zs: [i64; FIELDS] = [0; FIELDS];
-    let mut from = 0;
-    let mut number: u64 = 1;
-    let mut count: usize = 0;
-    while from < t.len() {
-        let place = read_line(t, from, &mut zs);
-        let Place::At(next) = place else {
+    let mut rows = [0; Row::ALL_NUMBERS_MOST];
+    let mut rest = t;
+    let mut number = 1;
+    let mut count = 0;
+    while !rest.is_empty() {
+        let Some(found) = read_line(rest) else {
             return refused(number);
         };
-        if exact::unsigned_at(&zs, 0) == id {
+        let (line, behind) = found;
+        if exact::unsigned_at(&line, 0) == id {
             if ROWS_MOST <= count {
                 return refused(number);
             }
-            put_row(&mut rows, count, &zs);
-            from = next;
-            number += 1;
+            put_row(&mut rows, count, &line);
             count += 1;
-        } else {
-            from = next;
-            number += 1;
         }
+        rest = behind;
+        number += 1;
     }
     Reading {
         verdict: Verdict::Done,

@@ -1,20 +1,14 @@
-// A line of the exchange's text, lent with the text that it stands in: its eight numbers, in range, and where the next
-// line begins.
-ghost use Rattle.std.specs.Prelude.{◌≡◌, [], ◌+◌, ◌≤◌, ◌<◌, length, drop, get_or};
-ghost use Rattle.exchange_protocol.specs.Exchange.{whole_number, columns, line_numbers};
-ghost use Rattle.exchange_protocol.specs.Scan.{pass, line_end, field_end, cells, in_range, line};
-ghost use Rattle.exchange_text.specs.Lines.{Passes, Lined};
+// A line of the exchange's text, in front of a lent text: its eight numbers, in range, and the text behind it.
+ghost use Rattle.std.specs.Prelude.{◌≡◌, [], ◌+◌, ◌*◌, ◌≤◌, ◌<◌, length, drop};
+ghost use Rattle.std.proofs.lemmas.List.Edits.{sets};
+ghost use Rattle.paper.specs.Numbers.{row_numbers};
+ghost use Rattle.exchange_protocol.specs.Exchange.{columns, line_numbers};
+ghost use Rattle.exchange_protocol.specs.Scan.{line_end, field_end, cells, in_range, line};
+ghost use Rattle.exchange_text.specs.Fronts.{front_of, passed_of};
 
-use crate::cell::{Cell, is_at, read_cell};
+use crate::cell::{pass, read_cell};
 use exchange_protocol::Column;
 use paper::{Record, Row};
-
-// Where something ends that is no number.
-#[derive(Clone, Copy)]
-pub enum Place {
-    At(usize),
-    Bad,
-}
 
 // The numbers of a line: the id, and those of a row.
 pub const FIELDS: usize = 1 + Row::NUMBERS;
@@ -23,120 +17,108 @@ const ID_MOST: i64 = Record::ID_MOST as i64;
 
 // ---- what stands between the fields
 
-// Behind the byte b, if it stands there.
-fn pass(t: &[u8], at: usize, b: u8) -> Place
-    requires { at ≤ length t.now }
-    ensures { Passes t.now result (pass b (drop at t.now)) }
-{
-    if is_at(t, at, b) {
-        return Place::At(at + 1);
-    }
-    Place::Bad
-}
-
 // "A line ends with LF, and CR LF is accepted."
-fn line_end(t: &[u8], at: usize) -> Place
-    requires { at ≤ length t.now }
-    ensures { Passes t.now result (line_end (drop at t.now)) }
+#[tactic(auto, unfolding(exchange_protocol::specs::Scan::line_end, exchange_protocol::specs::Scan::pass))]
+fn line_end(text: &[u8]) -> Option<&[u8]>
+    ensures { passed_of result ≡ line_end text.now }
 {
-    if is_at(t, at, b'\r') {
-        return pass(t, at + 1, b'\n');
-    }
-    pass(t, at, b'\n')
+    let end = pass(text, b'\r').unwrap_or(text);
+    pass(end, b'\n')
 }
 
 // Behind the k-th field.
-fn field_end(t: &[u8], at: usize, k: usize) -> Place
-    requires { (at ≤ length t.now) × (k < line_numbers) }
-    ensures { Passes t.now result (field_end (drop (k + 1) columns) (drop at t.now)) }
+fn field_end(text: &[u8], k: usize) -> Option<&[u8]>
+    requires { k < line_numbers }
+    ensures { passed_of result ≡ field_end (drop (k + 1) columns) text.now }
 {
     if k + 1 < FIELDS {
-        return pass(t, at, b';');
+        return pass(text, b';');
     }
-    line_end(t, at)
+    line_end(text)
 }
 
 // ---- the fields
 
-// How the k-th field is written: the id, T, central rate, repo rate, close, bid, ask, volume.
-fn column_of(k: usize) -> Column
-    requires { k < line_numbers }
-    ensures { (result ≡ get_or columns k whole_number) × (result.places ≤ 4) }
-{
-    if k == 2 {
-        return Column {
-            places: 4,
-            zeros: false,
-            empty: false,
-            minus: false,
-        };
-    }
-    if k == 3 {
-        return Column {
-            places: 2,
-            zeros: false,
-            empty: false,
-            minus: true,
-        };
-    }
-    if (4 <= k) & (k <= 6) {
-        return Column {
-            places: 4,
-            zeros: true,
-            empty: true,
-            minus: false,
-        };
-    }
-    Column {
-        places: 0,
-        zeros: false,
-        empty: false,
-        minus: false,
-    }
-}
+const WHOLE_NUMBER: Column = Column {
+    places: 0,
+    zeros: false,
+    empty: false,
+    minus: false,
+};
 
-// The eight fields from `from` on, each with what stands behind it; their numbers go to `out`.
-fn fields(t: &[u8], from: usize, out: &mut [i64]) -> Place
-    requires { (from ≤ length t.now) × (length out.old ≡ line_numbers) }
-    ensures { Lined t.now out.new result (cells columns [] (drop from t.now)) }
+const EXCHANGE_RATE: Column = Column {
+    places: 4,
+    zeros: false,
+    empty: false,
+    minus: false,
+};
+
+const REPO_RATE: Column = Column {
+    places: 2,
+    zeros: false,
+    empty: false,
+    minus: true,
+};
+
+const PRICE: Column = Column {
+    places: 4,
+    zeros: true,
+    empty: true,
+    minus: false,
+};
+
+// How each field is written: the id, T, central rate, repo rate, close, bid, ask, volume.
+const COLUMNS: [Column; FIELDS] = [
+    WHOLE_NUMBER,
+    WHOLE_NUMBER,
+    EXCHANGE_RATE,
+    REPO_RATE,
+    PRICE,
+    PRICE,
+    PRICE,
+    WHOLE_NUMBER,
+];
+
+// The eight fields, each with what stands behind it.
+fn fields(text: &[u8]) -> Option<([i64; FIELDS], &[u8])>
+    ensures { front_of result ≡ cells columns [] text.now }
 {
-    let mut k = 0;
-    let mut at = from;
-    while k < FIELDS {
-        let cell = read_cell(t, at, column_of(k));
-        let Cell::Is(z, end) = cell else {
-            return Place::Bad;
-        };
-        let place = field_end(t, end, k);
-        let Place::At(next) = place else {
-            return Place::Bad;
-        };
-        out[k] = z;
-        at = next;
-        k += 1;
+    let mut numbers = [0; FIELDS];
+    let mut rest = text;
+    for (k, column) in COLUMNS.iter().enumerate() {
+        let (number, behind) = read_cell(rest, *column)?;
+        rest = field_end(behind, k)?;
+        numbers[k] = number;
     }
-    Place::At(at)
+    Some((numbers, rest))
 }
 
 // Document 01's ranges, of the eight numbers.
-fn in_range(zs: &[i64]) -> bool
-    requires { length zs.now ≡ line_numbers }
-    ensures { result ≡ in_range zs.now }
+#[tactic(auto, unfolding(exchange_protocol::specs::Scan::in_range))]
+fn in_range(numbers: &[i64]) -> bool
+    requires { length numbers.now ≡ line_numbers }
+    ensures { result ≡ in_range numbers.now }
 {
-    exact::within_at(zs, 0, 1, ID_MOST) & rows::row_valid(zs, 1)
+    exact::within_at(numbers, 0, 1, ID_MOST) & rows::row_valid(numbers, 1)
 }
 
-// The line that begins at `from`, with what ends it; its eight numbers go to `out`.
-pub fn read_line(t: &[u8], from: usize, out: &mut [i64]) -> Place
-    requires { (from ≤ length t.now) × (length out.old ≡ line_numbers) }
-    ensures { Lined t.now out.new result (line (drop from t.now)) }
+// The line in front, with what ends it.
+#[tactic(auto, unfolding(exchange_protocol::specs::Scan::line))]
+pub fn read_line(text: &[u8]) -> Option<([i64; FIELDS], &[u8])>
+    ensures { front_of result ≡ line text.now }
 {
-    let place = fields(t, from, out);
-    let Place::At(next) = place else {
-        return Place::Bad;
-    };
-    if in_range(out) {
-        return Place::At(next);
+    let (numbers, rest) = fields(text)?;
+    if in_range(&numbers) {
+        return Some((numbers, rest));
     }
-    Place::Bad
+    None
+}
+
+// The seven numbers of a line behind its id become the row `at`.
+pub fn put_row(rows: &mut [i64], at: usize, line: &[i64; FIELDS])
+    requires { row_numbers * at + row_numbers ≤ length rows.old }
+    ensures { rows.new ≡ sets rows.old (row_numbers * at) (drop 1 line.now) }
+{
+    let first = Row::NUMBERS * at;
+    rows[first..first + Row::NUMBERS].copy_from_slice(&line[1..]);
 }

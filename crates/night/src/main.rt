@@ -3,15 +3,14 @@
 #![tactic(auto)]
 
 ghost use Rattle.std.specs.Prelude.{◌≡◌, ◌≤◌, length};
-ghost use Rattle.night_protocol.specs.Night.{securities_most};
 ghost use Rattle.night_protocol.specs.Sheet.{day_numbers, words_most};
-ghost use Rattle.night_serve.specs.Tables.{ids_room, figures_room};
 ghost use Rattle.night_serve.specs.Serving.{OfWord, Asks, Answered};
 
-use night_protocol::{SECURITIES_MOST, TEXT_MOST, WORDS_MOST};
-use night_serve::reading::{FIGURES_ROOM, IDS_ROOM};
-use night_serve::{SHEET_ROOM, Served};
+use night_protocol::{TEXT_MOST, WORDS_MOST};
+use night_serve::reading::Securities;
+use night_serve::{Served, Sheet};
 use text_line::Taken;
+use text_out::Text;
 use text_protocol::{Item, Pairs};
 
 // ---- buffers
@@ -21,28 +20,6 @@ const TEXT_ROOM: usize = TEXT_MOST + 1;
 
 fn text_buffer() -> [u8; TEXT_ROOM] {
     [0; TEXT_ROOM]
-}
-
-fn sheet_buffer() -> [u8; SHEET_ROOM] {
-    [0; SHEET_ROOM]
-}
-
-fn ids_buffer() -> [u64; IDS_ROOM]
-    ensures { length result ≡ ids_room }
-{
-    [0; IDS_ROOM]
-}
-
-fn counts_buffer() -> [usize; SECURITIES_MOST]
-    ensures { length result ≡ securities_most }
-{
-    [0; SECURITIES_MOST]
-}
-
-fn figures_buffer() -> [i64; FIGURES_ROOM]
-    ensures { length result ≡ figures_room }
-{
-    [0; FIGURES_ROOM]
 }
 
 fn numbers_buffer() -> [i64; WORDS_MOST]
@@ -84,10 +61,8 @@ fn asked(rt: HostRuntime, numbers: &mut [i64]) -> Taken
 {
     let mut a = night_serve::no_words();
     let count = text_evidence::arg_count(rt);
-    let mut i = 1;
-    while i < count {
+    for i in 1..count {
         a = night_serve::take_word(numbers, a, word_at(rt, i));
-        i += 1;
     }
     night_serve::asked(a)
 }
@@ -100,18 +75,14 @@ fn serve(rt: HostRuntime, numbers: &[i64], pairs: Pairs) -> Served
     ensures { Answered numbers.now pairs result }
 {
     let mut text = text_buffer();
-    let mut ids = ids_buffer();
-    let mut counts = counts_buffer();
-    let mut figures = figures_buffer();
-    let mut out = text_evidence::large_buffer();
-    let mut sheet = sheet_buffer();
+    let mut securities = Securities::new();
+    let mut out = Text::new();
+    let mut sheet = Sheet::new();
     night_serve::serve(
         rt.stdin(),
         rt.stdout(),
         &mut text,
-        &mut ids,
-        &mut counts,
-        &mut figures,
+        &mut securities,
         &mut out,
         &mut sheet,
         numbers,
@@ -120,9 +91,9 @@ fn serve(rt: HostRuntime, numbers: &[i64], pairs: Pairs) -> Served
 }
 
 fn say_fault(rt: HostRuntime, line: u64) {
-    let mut out = text_evidence::large_buffer();
-    let n = night_serve::say_fault(&mut out, line);
-    let _ = rt.stderr().write_all(&out[..n]);
+    let mut out = Text::new();
+    night_serve::say_fault(&mut out, line);
+    let _ = rt.stderr().write_all(out.as_slice());
 }
 
 fn say_failed(rt: HostRuntime, wrote: bool) {
@@ -134,8 +105,8 @@ fn say_failed(rt: HostRuntime, wrote: bool) {
 fn report(rt: HostRuntime, served: Served) {
     let read = served.read;
     let told = served.told;
-    if served.bad {
-        say_fault(rt, served.line);
+    if let Some(line) = served.fault {
+        say_fault(rt, line);
     }
     if read.has_failed() | !told.took_all() {
         say_failed(rt, told.took_all());

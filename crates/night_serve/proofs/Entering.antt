@@ -1,18 +1,22 @@
 -- A line more in the tables, as laws over lists and numbers: where its id stands, what is stored there, and that the
 -- places of the other securities stay as they are.
 use mathlib.Core.Path.{◌≡◌, refl, sym, ap, ◌∙◌}
-use mathlib.Core.Bool.{Bool, true, false}
+use mathlib.Core.Bool.{Bool, true, false, not, cond}
 use mathlib.Core.Logic.{◌⊎◌, inl, inr}
 use mathlib.Core.List.{List, [], ◌∷◌, ◌++◌, append_assoc, append-nil}
 use Prim.Native.Nat.{ℕ, zero, suc, ◌+◌, ◌-◌, ◌*◌, ◌≤◌, ◌<◌}
 use native.Mathlib.Omega.{arith}
-use lib.Dec.{eqb}
+use lib.Dec.{ltb, eqb}
 use lib.IntN.{ℤ, pos}
-use lib.ListN.{length, take, drop, get_or, set, length-append, length-drop, length-set, take-append-drop}
+use lib.ListN.{length, take, drop, get_or, set, length-append, length-take, length-drop, length-set, take-append-drop}
 use lib.Seq.{sets, sets-eq, length-sets, take-suc-set, length-take-le, get_or-set_same, get_or-set_other}
-use lib.Seq.{get_or-take, take_at, drop-append-le, take-append-le, drop-append-add, take-append-add, drop-drop}
+use lib.Seq.{get_or-take, get_or-drop, take_at, drop-append-le, take-append-le, drop-append-add, take-append-add, drop-drop}
 use lib.Seq.{take-nil}
-use borrow.Author.Tests.{eqb-true, eqb-false, lt-ltb, le-ltb}
+use borrow.Author.Tests.{eqb-true, eqb-false, lt-ltb, le-ltb, ltb-true, ltb-false}
+use Rattle.std.specs.Prelude.{Option, Some, None}
+use Rattle.std.specs.List.{position, position_or_len}
+use Rattle.std.proofs.lemmas.List.Sums.{prefix_len_passes, prefix_len_stops}
+use Rattle.text_bytes.proofs.Spelling.{impossible}
 use Rattle.paper.specs.Numbers.{row_numbers, all_numbers_most}
 use Rattle.paper.specs.Ranges.{unsigned}
 use Rattle.paper.proofs.Logic.{le_or_lt}
@@ -20,8 +24,8 @@ use Rattle.exchange_protocol.specs.Exchange.{rows_most, in_one, line_numbers}
 use Rattle.night_protocol.specs.Night.{securities_most, is_among, joined, firsts, id_of, ids_of, rows_in}
 use Rattle.night_protocol.specs.Night.{has_room}
 use Rattle.night_protocol.proofs.Rows.{among_at, among_none, line_joins, rows_own, rows_other}
+use Rattle.night_serve.specs.declared.reading.Securities.{Securities}
 use Rattle.night_serve.specs.Tables.{id_at, ids_room, figures_room, Finds, Held, EntersAs, Enters}
-use Rattle.night_serve.specs.declared.reading.Entered.TheVariants as entered
 
 -- ---- the numbers of rows
 
@@ -374,127 +378,145 @@ module _ (lines : List (List ℤ)) (ids counts : List ℕ) (figures : List ℤ) 
 
 -- ---- where an id stands
 
--- it stands at none of the places from one on and before i
-pub record Scanning (ids : List ℕ) (from to id i : ℕ) : Type 0 where
-  pub low : from ≤ i
-  pub high : i ≤ to
-  pub nowhere : (j : ℕ) → from ≤ j → j < i → id_at ids j ≡ id → ⊥
+not_false : (b : Bool) → not b ≡ false → b ≡ true
+not_false true e = refl
+not_false false e = impossible cc
 
-pub scanning_none : (ids : List ℕ) (from to id : ℕ) → from ≤ to → Scanning ids from to id from
-scanning_none ids from to id h = record { low = omega arith; high = h; nowhere = λ j a b e. omega arith }
+not_true : (b : Bool) → not b ≡ true → b ≡ false
+not_true true e = impossible cc
+not_true false e = refl
 
-module _ (ids : List ℕ) (from to id i : ℕ) (s : Scanning ids from to id i) where
-  pub scanned_here : i < to → id_at ids i ≡ id → Finds ids from to id i
-  scanned_here h e =
-      record {
-        low = s.low;
-        high = s.high;
-        here = λ k. e;
-        nowhere = λ k j a b f. omega arith;
-      }
+module _ (ids : List ℕ) (id : ℕ) where
+  first : ℕ
+  first = position_or_len (λ x. eqb x id) ids
 
-  pub scanning_more : i < to → (id_at ids i ≡ id → ⊥) → Scanning ids from to id (i + 1)
-  scanning_more h e = record { low = omega (arith, s.low); high = omega arith; nowhere = more }
+  finds_position : Finds ids id (position (λ x. eqb x id) ids)
+  unfolding first
+  finds_position = go (ltb first (length ids)) refl
     where
-      more : (j : ℕ) → from ≤ j → j < i + 1 → id_at ids j ≡ id → ⊥
-      more j a b f = go (le_or_lt i j)
-        where
-          go : (i ≤ j) ⊎ (j < i) → ⊥
-          go (inl k) =
-              let g : i ≡ j = omega arith in
-              e (ap (id_at ids) g ∙ f)
-          go (inr k) = s.nowhere j a k f
+      go : (b : Bool) → ltb first (length ids) ≡ b → Finds ids id (cond b (Some first) None)
+      go true e =
+          let h : first < length ids = ltb-true first (length ids) e in (
+            h,
+            eqb-true (id_at ids first) id
+                (not_false (eqb (id_at ids first) id) (prefix_len_stops (λ x. not (eqb x id)) ids 0 h)),
+          )
+      go false e = λ i h q.
+          let k : length ids ≤ first = ltb-false first (length ids) e in
+          eqb-false (id_at ids i) id
+          (not_true (eqb (id_at ids i) id) (prefix_len_passes (λ x. not (eqb x id)) ids i 0 (omega arith))) q
 
-  pub scanned_none : to ≤ i → Finds ids from to id to
-  scanned_none h =
-      record {
-        low = omega (arith, s.low);
-        high = omega arith;
-        here = λ k. absurd (self k);
-        nowhere = λ k j a b f. s.nowhere j a (omega arith) f;
-      }
-    where
-      self : to < to → ⊥
-      self k = omega arith
+  finds : (r : Option ℕ) → r ≡ position (λ x. eqb x id) ids → Finds ids id r
+  finds r e = rw e finds_position
 
 -- from the last place on, and then before it
-pub found_there : (ids : List ℕ) (last n id r : ℕ) → Finds ids last n id r → r < n → Finds ids 0 n id r
-found_there ids last n id r f h =
-    record { low = omega arith; high = omega arith; here = f.here; nowhere = λ k i a b e. omega arith }
+module _ (ids : List ℕ) (id start : ℕ) (h : start ≤ length ids) where
+  abbrev behind : List ℕ
+  behind = take (length ids - start) (drop start ids)
 
-pub found_before : (ids : List ℕ) (last n id r : ℕ) → Finds ids 0 last id r → r < last → last < n
-    → Finds ids 0 n id r
-found_before ids last n id r f h k =
-    record { low = omega arith; high = omega arith; here = λ j. f.here h; nowhere = λ j i a b e. omega arith }
+  behind_long : length behind ≡ length ids - start
+  behind_long = omega (arith, length-take (length ids - start) (drop start ids), length-drop start ids)
 
-pub found_nowhere : (ids : List ℕ) (last n id q r : ℕ) → Finds ids last n id q → n ≤ q
-    → Finds ids 0 last id r → last ≤ r → Finds ids 0 n id n
-found_nowhere ids last n id q r f h g k =
-    record { low = omega arith; high = omega arith; here = λ j. absurd (self j); nowhere = λ j. neither }
-  where
-    self : n < n → ⊥
-    self j = omega arith
+  behind_at : (i : ℕ) → i < length ids - start → id_at behind i ≡ id_at ids (start + i)
+  behind_at i l = get_or-take (length ids - start) (drop start ids) i 0 l ∙ get_or-drop start ids i 0
 
-    neither : (i : ℕ) → 0 ≤ i → i < n → id_at ids i ≡ id → ⊥
-    neither i a b e = go (le_or_lt last i)
-      where
-        go : (last ≤ i) ⊎ (i < last) → ⊥
-        go (inl j) = f.nowhere h i j b e
-        go (inr j) = g.nowhere k i a j e
+  pub found_behind : (i : ℕ) → Some i ≡ position (λ x. eqb x id) behind → Finds ids id (Some (start + i))
+  found_behind i e =
+      let f : (i < length behind) × (id_at behind i ≡ id) = finds behind id (Some i) e in
+      let l : i < length ids - start = omega (arith, behind_long, f.0) in
+      (omega arith, sym (behind_at i l) ∙ f.1)
+
+  pub found_before : (r : Option ℕ) → None ≡ position (λ x. eqb x id) behind
+      → r ≡ position (λ x. eqb x id) (take start ids) → Finds ids id r
+  found_before r e q = go r (finds (take start ids) id r q)
+    where
+      none_behind : (i : ℕ) → i < length behind → id_at behind i ≡ id → ⊥
+      none_behind = finds behind id None e
+
+      go : (r : Option ℕ) → Finds (take start ids) id r → Finds ids id r
+      go (Some i) f =
+          let l : i < start = omega (arith, length-take start ids, f.0) in
+          (omega arith, sym (get_or-take start ids i 0 l) ∙ f.1)
+      go None f = λ i k w. neither f i k w (le_or_lt start i)
+        where
+          neither : Finds (take start ids) id None → (i : ℕ) → i < length ids → id_at ids i ≡ id
+              → (start ≤ i) ⊎ (i < start) → ⊥
+          neither f i k w (inl a) =
+              let j : start + (i - start) ≡ i = omega arith in
+              none_behind (i - start) (omega (arith, behind_long))
+              (behind_at (i - start) (omega arith) ∙ ap (id_at ids) j ∙ w)
+          neither f i k w (inr b) =
+              f i (omega (arith, length-take start ids)) (get_or-take start ids i 0 b ∙ w)
 
 -- ---- what becomes of the tables
 
-module _ (ids counts : List ℕ) (figures : List ℤ) (n : ℕ) (zs : List ℤ) (long : length zs ≡ line_numbers)
-    (id r : ℕ) (is : id ≡ unsigned (get_or zs 0 (pos 0)))
-    (f : Finds ids 0 n id r) where
+module _ (s : Securities) (zs : List ℤ) (long : length zs ≡ line_numbers) (id : ℕ)
+    (is : id ≡ unsigned (get_or zs 0 (pos 0))) where
   it_is : id ≡ id_of zs
   unfolding id_of
   it_is = is
 
-  module _ (h : r < n) where
-    there : id_at ids r ≡ id_of zs
-    there = f.here h ∙ it_is
+  module _ (r : ℕ) (f : (r < length (take s.count s.ids)) × (id_at (take s.count s.ids) r ≡ id)) where
+    before : r < s.count
+    before = omega (arith, length-take s.count s.ids, f.0)
 
-    pub enters_seventeenth : rows_most ≤ get_or counts r 0 → Enters ids counts figures n zs ids counts figures entered.Full
+    there : id_at s.ids r ≡ id_of zs
+    there = sym (get_or-take s.count s.ids r 0 before) ∙ f.1 ∙ it_is
+
+    pub enters_seventeenth : rows_most ≤ get_or s.counts r 0 → Enters s zs s None
     unfolding EntersAs
     enters_seventeenth k =
         record {
-          is = λ lines s. seventeenth lines ids counts figures n zs s long s.ids_long s.counts_long s.figures_long r h there k;
+          is = λ lines h. seventeenth lines s.ids s.counts s.figures s.count zs h long h.ids_long h.counts_long h.figures_long
+              r before there k;
         }
 
-    pub enters_there : get_or counts r 0 < rows_most → (figures' : List ℤ)
-        → figures' ≡ sets figures (row_numbers * (rows_most * r + get_or counts r 0)) (drop 1 zs)
-        → Enters ids counts figures n zs ids (set counts r (get_or counts r 0 + 1)) figures' (entered.At r n)
+    pub enters_there : get_or s.counts r 0 < rows_most → (figures' : List ℤ)
+        → figures' ≡ sets s.figures (row_numbers * (rows_most * r + get_or s.counts r 0)) (drop 1 zs)
+        → Enters s zs
+        (record { count = s.count; ids = s.ids; counts = set s.counts r (get_or s.counts r 0 + 1); figures = figures' })
+        (Some r)
     unfolding EntersAs
     enters_there k figures' e =
         record {
-          is = λ lines s. (
-            room_there lines ids counts figures n zs s long s.ids_long s.counts_long s.figures_long r h
-                there k,
-            rw e (held_there lines ids counts figures n zs s long s.ids_long s.counts_long s.figures_long r
-                h there k),
+          is = λ lines h. (
+            room_there lines s.ids s.counts s.figures s.count zs h long h.ids_long h.counts_long h.figures_long
+                r before there k,
+            rw e (held_there lines s.ids s.counts s.figures s.count zs h long h.ids_long h.counts_long h.figures_long
+                r before there k),
           );
         }
 
-  module _ (h : n ≤ r) where
-    new : (i : ℕ) → i < n → id_at ids i ≡ id_of zs → ⊥
-    new i k e = f.nowhere h i (omega arith) k (e ∙ sym it_is)
+  module _ (nowhere : (i : ℕ) → i < length (take s.count s.ids) → id_at (take s.count s.ids) i ≡ id → ⊥) where
+    new : s.count ≤ length s.ids → (i : ℕ) → i < s.count → id_at s.ids i ≡ id_of zs → ⊥
+    new h i k e =
+        nowhere i (omega (arith, length-take s.count s.ids)) (get_or-take s.count s.ids i 0 k ∙ e ∙ sym it_is)
 
-    pub enters_too_many : securities_most ≤ n → Enters ids counts figures n zs ids counts figures entered.Full
+    pub enters_too_many : securities_most ≤ s.count → Enters s zs s None
     unfolding EntersAs
     enters_too_many k =
         record {
-          is = λ lines s. too_many lines ids counts figures n zs s long s.ids_long s.counts_long s.figures_long new k;
+          is = λ lines h. too_many lines s.ids s.counts s.figures s.count zs h long h.ids_long h.counts_long h.figures_long
+              (new (omega (arith, h.ids_long, h.few))) k;
         }
 
-    pub enters_new : n < securities_most → (figures' : List ℤ)
-        → figures' ≡ sets figures (row_numbers * (rows_most * n)) (drop 1 zs)
-        → Enters ids counts figures n zs (set ids n id) (set counts n 1) figures' (entered.At n (n + 1))
+    pub enters_new : s.count < securities_most → (figures' : List ℤ)
+        → figures' ≡ sets s.figures (row_numbers * (rows_most * s.count)) (drop 1 zs)
+        → Enters s zs
+        (record {
+          count = s.count + 1;
+          ids = set s.ids s.count id;
+          counts = set s.counts s.count 1;
+          figures = figures';
+        })
+        (Some s.count)
     unfolding EntersAs
     enters_new k figures' e =
         record {
-          is = λ lines s. (
-            room_new lines ids counts figures n zs s long s.ids_long s.counts_long s.figures_long new k,
-            rw (e, it_is) (held_new lines ids counts figures n zs s long s.ids_long s.counts_long s.figures_long new k),
+          is = λ lines h. (
+            room_new lines s.ids s.counts s.figures s.count zs h long h.ids_long h.counts_long h.figures_long
+                (new (omega (arith, h.ids_long, h.few))) k,
+            rw (e, it_is) (held_new lines s.ids s.counts s.figures s.count zs h long h.ids_long h.counts_long h.figures_long
+                (new (omega (arith, h.ids_long, h.few))) k),
           );
         }

@@ -6,7 +6,9 @@ use Prim.Native.Nat.{ℕ, suc, ◌+◌, ◌-◌, ◌≤◌, ◌<◌}
 use native.Mathlib.Omega.{arith}
 use lib.IntN.{ℤ, pos}
 use lib.ListN.{length, take, drop, get_or, set, length-set, length-drop, drop_of_length-le}
-use lib.Seq.{take-suc-set, take-set-le, take-take, length-take-le, get_or-take, drop-cons}
+use lib.Seq.{take-suc-set, take-set-le, take-take, drop-cons}
+use Rattle.std.specs.Prelude.{Option, Some, None, is_some}
+use Rattle.text_bytes.proofs.Spelling.{impossible}
 use Rattle.paper.specs.Ranges.{unsigned}
 use Rattle.night_protocol.specs.Night.{is_among, joined, firsts_behind}
 use Rattle.night_protocol.specs.Sheet.{day_numbers}
@@ -16,31 +18,33 @@ use Rattle.night_serve.specs.Serving.{JoinsOne, Joins}
 
 -- ---- one id more
 
-module _ (ids : List ℕ) (n id r : ℕ) (f : Finds ids 0 n id r) (fits : n ≤ length ids) where
-  lt : length (take n ids) ≡ n
-  lt = length-take-le n ids fits
-
-  pub joins_there : r < n → JoinsOne ids n id ids n
+module _ (ids : List ℕ) (n id : ℕ) (r : Option ℕ) (f : Finds (take n ids) id r) where
+  pub joins_there : is_some r ≡ true → JoinsOne ids n id ids n
   unfolding joined
-  joins_there h =
-      let e : is_among id (take n ids) ≡ true = among_at (take n ids) r id (rw lt h) (get_or-take n ids r 0 h ∙ f.here
-      h) in
-      record { long = refl; are = sym (rw e); kept = refl; low = omega arith; high = omega arith }
+  joins_there h = go r f h
+    where
+      go : (r : Option ℕ) → Finds (take n ids) id r → is_some r ≡ true → JoinsOne ids n id ids n
+      go None f h = impossible cc
+      go (Some i) f h =
+          let e : is_among id (take n ids) ≡ true = among_at (take n ids) i id f.0 f.1 in
+          record { long = refl; are = sym (rw e); kept = refl; low = omega arith; high = omega arith }
 
-  pub joins_new : n ≤ r → n < length ids → JoinsOne ids n id (set ids n id) (n + 1)
+  pub joins_new : is_some r ≡ false → n < length ids → JoinsOne ids n id (set ids n id) (n + 1)
   unfolding joined
-  joins_new h k =
-      let e : is_among id (take n ids) ≡ false =
-      among_none (take n ids) id
-      (λ i a b. f.nowhere h i (omega arith) (rw lt at a) (sym (get_or-take n ids i 0 (rw lt at a)) ∙ b)) in
-      let g : n + 1 ≡ suc n = omega arith in
-      record {
-        long = length-set ids n id;
-        are = rw (g, e) (take-suc-set ids n id k);
-        kept = take-set-le n ids n id (omega arith);
-        low = omega arith;
-        high = omega arith;
-      }
+  joins_new h k = go r f h
+    where
+      go : (r : Option ℕ) → Finds (take n ids) id r → is_some r ≡ false → JoinsOne ids n id (set ids n id) (n + 1)
+      go (Some i) f h = impossible cc
+      go None f h =
+          let e : is_among id (take n ids) ≡ false = among_none (take n ids) id f in
+          let g : n + 1 ≡ suc n = omega arith in
+          record {
+            long = length-set ids n id;
+            are = rw (g, e) (take-suc-set ids n id k);
+            kept = take-set-le n ids n id (omega arith);
+            low = omega arith;
+            high = omega arith;
+          }
 
 -- ---- one after the other
 

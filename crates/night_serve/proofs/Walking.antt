@@ -3,28 +3,25 @@
 use mathlib.Core.Path.{◌≡◌, refl, sym, ap, ◌∙◌}
 use mathlib.Core.Bool.{true, false}
 use mathlib.Core.List.{List, [], ◌∷◌, ◌++◌}
-use Prim.Native.Nat.{ℕ, suc, ◌+◌, ◌≤◌, ◌<◌}
+use Prim.Native.Nat.{ℕ, zero, suc, ◌+◌, ◌≤◌, ◌<◌}
 use native.Mathlib.Omega.{arith}
+use lib.Dec.{eqb}
 use lib.IntN.{ℤ, pos}
-use lib.ListN.{length, drop, replicate, length-append, length-drop, drop_of_length-le}
+use Rattle.std.specs.Prelude.{Option, Some, None}
+use lib.ListN.{length, length-append}
 use borrow.Author.Tests.{le-leb, lt-leb, ne_eqb, eqb-true}
 use Rattle.paper.specs.Lists.{pick}
 use Rattle.text_bytes.specs.Bytes.{line_feed, is_line_feed, pieces}
 use Rattle.text_bytes.specs.Split.{Free}
 use Rattle.text_bytes.proofs.Spelling.{impossible}
 use Rattle.text_bytes.proofs.Pieces.{pieces_none, pieces_more, Parted, all, more, parted, pieces_some}
-use Rattle.exchange_protocol.specs.Exchange.{line_numbers}
 use Rattle.exchange_protocol.specs.Scan.{Front, front, none, line, WrittenLine}
 use Rattle.exchange_protocol.proofs.Lines.{ended_reads, line_back}
-use Rattle.exchange_text.specs.declared.row.Place.{Place}
-use Rattle.exchange_text.specs.declared.row.Place.TheVariants as place
-use Rattle.exchange_text.specs.Lines.{place_front, PlaceIn, Lined}
 use Rattle.night_protocol.specs.Night.{bad, night_most, securities_most, firsts, firsts_behind, ids_of}
 use Rattle.night_protocol.specs.Night.{rows_in, has_room, or_bad}
 use Rattle.night_protocol.specs.Night.{gather, night_of}
-use Rattle.night_serve.specs.Tables.{ids_room, figures_room, Held, EntersAs, Enters, HeldNight}
-use Rattle.night_serve.specs.declared.reading.Entered.{Entered}
-use Rattle.night_serve.specs.declared.reading.Entered.TheVariants as entered
+use Rattle.night_serve.specs.declared.reading.Securities.{Securities}
+use Rattle.night_serve.specs.Tables.{ids_room, figures_room, Held, HeldBy, EntersAs, Enters, HeldNight}
 
 feed_only : (b : ℕ) → is_line_feed b ≡ true → b ≡ line_feed
 unfolding is_line_feed
@@ -67,15 +64,13 @@ gather_unended n lines p h = rw (ne_eqb (length p) 0 (λ e. omega arith))
 
 -- ---- how the loop stands
 
-pub record Walks (t ids counts : List ℕ) (figures zs : List ℤ) (from number count : ℕ) : Type 0
+pub record Walks (t : List ℕ) (s : Securities) (rest : List ℕ) (number : ℕ) : Type 0
   where
     pub lines : List (List ℤ)
-    pub in_t : from ≤ length t
     pub fits : length t ≤ night_most
-    pub few_lines : number ≤ from + 1
-    pub long : length zs ≡ line_numbers
-    pub held : Held lines ids counts figures count
-    pub rest : gather number lines (pieces is_line_feed (drop from t)) ≡ night_of t
+    pub few_lines : number + length rest ≤ length t + 1
+    pub held : HeldBy lines s
+    pub left : gather number lines (pieces is_line_feed rest) ≡ night_of t
 
 pub too_long : (t : List ℕ) → night_most < length t → night_of t ≡ bad 0
 unfolding night_of
@@ -103,114 +98,101 @@ held_none ids counts figures il cl fl =
 
 pub walks_none : (t ids counts : List ℕ) (figures : List ℤ) → length ids ≡ ids_room → length counts ≡ securities_most
     → length figures ≡ figures_room → length t ≤ night_most
-    → Walks t ids counts figures (replicate line_numbers (pos 0)) 0 1 0
+    → Walks t (record { count = 0; ids = ids; counts = counts; figures = figures }) t 1
 unfolding night_of
 walks_none t ids counts figures il cl fl h =
     record {
       lines = [];
-      in_t = omega arith;
       fits = h;
       few_lines = omega arith;
-      long = refl;
       held = held_none ids counts figures il cl fl;
-      rest = rw (le-leb (length t) night_most h);
+      left = rw (le-leb (length t) night_most h);
     }
 
-module _ (t ids counts : List ℕ) (figures zs : List ℤ) (from number count : ℕ)
-    (s : Walks t ids counts figures zs from number count) where
-  pub walks_all : length t ≤ from → HeldNight t ids counts figures count
+pub some_left : (n : ℕ) → false ≡ eqb n 0 → 0 < n
+some_left zero e = impossible cc
+some_left (suc n) e = omega arith
+
+module _ (t : List ℕ) (s : Securities) (rest : List ℕ) (number : ℕ) (w : Walks t s rest number) where
+  pub number_fits : number ≤ night_most + 1
+  number_fits = omega (arith, w.few_lines, w.fits)
+
+  pub walks_all : length rest ≡ 0 → HeldNight t s
   unfolding gather pieces
   walks_all h =
       record {
-        lines = s.lines;
-        is = sym s.rest ∙ rw (drop_of_length-le t h);
-        held = s.held;
+        lines = w.lines;
+        is = sym w.left ∙ rw (empty_is rest h);
+        held = w.held;
       }
+    where
+      empty_is : (u : List ℕ) → length u ≡ 0 → u ≡ []
+      empty_is [] e = refl
+      empty_is (b ∷ u) e = absurd (omega arith)
 
-  module _ (h : from < length t) (ys : List ℤ) (r : Place) (l : Lined t ys r (line (drop from t))) where
-    pub walks_bad : r ≡ place.Bad → night_of t ≡ bad number
-    unfolding place_front
-    walks_bad q = sym s.rest ∙ go (drop from t) refl (parted is_line_feed (drop from t))
-      where
-        none_here : line (drop from t) ≡ none
-        none_here = sym (rw q at l.is)
-
-        go : (v : List ℕ) → drop from t ≡ v → Parted is_line_feed v
-            → gather number s.lines (pieces is_line_feed (drop from t)) ≡ bad number
-        go v e (all f) =
-            let o : 0 < length v = rw (← e, length-drop from t) (omega arith) in
-            rw (e, pieces_none is_line_feed f) (gather_unended number s.lines v o)
-        go _ e (more {p} {b} v f g) =
-            let i : b ≡ line_feed = feed_only b g in
-            let j : drop from t ≡ p ++ line_feed ∷ v = e ∙ ap (λ (x : ℕ). p ++ x ∷ v) i in
-            let k : pieces is_line_feed (drop from t) ≡ p ∷ pieces is_line_feed v =
-            ap (pieces is_line_feed) j ∙ pieces_more is_line_feed v f feed_is in
-            let m : line (p ++ line_feed ∷ []) ≡ none = none_alone p v f (ap line (sym j) ∙ none_here) in
-            rw k (behind p v m (pieces is_line_feed v) refl)
-          where
-            behind : (p v : List ℕ) → line (p ++ line_feed ∷ []) ≡ none → (ps : List (List ℕ)) → pieces is_line_feed v ≡ ps
-                → gather number s.lines (p ∷ pieces is_line_feed v) ≡ bad number
-            behind p v m [] i = pieces_some is_line_feed v i
-            behind p v m (q ∷ ps) i = rw i (gather_none number s.lines p q ps m)
-
-    module _ (next : ℕ) (q : r ≡ place.At next) where
-      found : WrittenLine (drop from t) ys (drop next t)
-      unfolding place_front
-      found = line_back (drop from t) ys (drop next t) (sym (rw q at l.is))
-
-      in_text : next ≤ length t
-      unfolding PlaceIn
-      in_text = rw q at l.inside
-
-      pub further : from < next
-      further =
-          omega (
-            arith,
-            ap length found.is ∙ length-append found.p (line_feed ∷ drop next t),
-            length-drop from t,
-            length-drop next t,
-            in_text,
-          )
-
-      stepped : pick (has_room s.lines ys)
-          (gather (suc number) (s.lines ++ ys ∷ []) (pieces is_line_feed (drop next t))) (bad number)
-          ≡ night_of t
-      stepped =
-          sym (ap (gather number s.lines) (ap (pieces is_line_feed) found.is
-          ∙ pieces_more is_line_feed (drop next t) found.unbroken feed_is)
-          ∙ behind (pieces is_line_feed (drop next t)) refl)
-          ∙ s.rest
+  pub walks_bad : 0 < length rest → none ≡ line rest → night_of t ≡ bad number
+  walks_bad h none_here = sym w.left ∙ go rest refl (parted is_line_feed rest)
+    where
+      go : (v : List ℕ) → rest ≡ v → Parted is_line_feed v → gather number w.lines (pieces is_line_feed rest) ≡ bad number
+      go v e (all f) =
+          let o : 0 < length v = rw (← e) h in
+          rw (e, pieces_none is_line_feed f) (gather_unended number w.lines v o)
+      go _ e (more {p} {b} v f g) =
+          let i : b ≡ line_feed = feed_only b g in
+          let j : rest ≡ p ++ line_feed ∷ v = e ∙ ap (λ (x : ℕ). p ++ x ∷ v) i in
+          let k : pieces is_line_feed rest ≡ p ∷ pieces is_line_feed v =
+          ap (pieces is_line_feed) j ∙ pieces_more is_line_feed v f feed_is in
+          let m : line (p ++ line_feed ∷ []) ≡ none = none_alone p v f (ap line (sym j) ∙ sym none_here) in
+          rw k (behind p v m (pieces is_line_feed v) refl)
         where
-          alone : line (found.p ++ line_feed ∷ []) ≡ front ys []
-          alone = ended_reads [] found.ended ∙ ap (λ (x : List ℤ). front x []) (sym found.numbers)
+          behind : (p v : List ℕ) → line (p ++ line_feed ∷ []) ≡ none → (ps : List (List ℕ)) → pieces is_line_feed v ≡ ps
+              → gather number w.lines (p ∷ pieces is_line_feed v) ≡ bad number
+          behind p v m [] i = pieces_some is_line_feed v i
+          behind p v m (q ∷ ps) i = rw i (gather_none number w.lines p q ps m)
 
-          behind : (ps : List (List ℕ)) → pieces is_line_feed (drop next t) ≡ ps
-              → gather number s.lines (found.p ∷ pieces is_line_feed (drop next t))
-              ≡ pick (has_room s.lines ys)
-              (gather (suc number) (s.lines ++ ys ∷ []) (pieces is_line_feed (drop next t))) (bad number)
-          behind [] i = pieces_some is_line_feed (drop next t) i
-          behind (q ∷ ps) i = rw i (gather_line number s.lines found.p q ps ys [] alone)
+  module _ (ys : List ℤ) (after : List ℕ) (l : front ys after ≡ line rest) where
+    found : WrittenLine rest ys after
+    found = line_back rest ys after (sym l)
 
-      module _ (ids' counts' : List ℕ) (figures' : List ℤ) (e : Entered)
-          (x : Enters ids counts figures count ys ids' counts' figures' e) where
-        pub walks_full : e ≡ entered.Full → night_of t ≡ bad number
-        unfolding EntersAs
-        walks_full i =
-            let f : has_room s.lines ys ≡ false = rw i at (x.is s.lines s.held) in
-            sym (rw f at stepped)
+    pub further : length after < length rest
+    further = omega (arith, ap length found.is ∙ length-append found.p (line_feed ∷ after))
 
-        pub walks_on : (at n : ℕ) → e ≡ entered.At at n → Walks t ids' counts' figures' ys next (number + 1) n
-        unfolding EntersAs
-        walks_on at n i =
-            let f : (has_room s.lines ys ≡ true) × Held (s.lines ++ ys ∷ []) ids' counts' figures' n =
-            rw i at (x.is s.lines s.held) in
-            let j : number + 1 ≡ suc number = omega arith in
-            record {
-              lines = s.lines ++ ys ∷ [];
-              in_t = in_text;
-              fits = s.fits;
-              few_lines = omega (arith, s.few_lines, further);
-              long = l.long;
-              held = f.1;
-              rest = rw j (rw f.0 at stepped);
-            }
+    stepped : pick (has_room w.lines ys) (gather (suc number) (w.lines ++ ys ∷ []) (pieces is_line_feed after))
+        (bad number) ≡ night_of t
+    stepped =
+        sym (ap (gather number w.lines) (ap (pieces is_line_feed) found.is
+        ∙ pieces_more is_line_feed after found.unbroken feed_is)
+        ∙ behind (pieces is_line_feed after) refl)
+        ∙ w.left
+      where
+        alone : line (found.p ++ line_feed ∷ []) ≡ front ys []
+        alone = ended_reads [] found.ended ∙ ap (λ (x : List ℤ). front x []) (sym found.numbers)
+
+        behind : (ps : List (List ℕ)) → pieces is_line_feed after ≡ ps
+            → gather number w.lines (found.p ∷ pieces is_line_feed after)
+            ≡ pick (has_room w.lines ys) (gather (suc number) (w.lines ++ ys ∷ []) (pieces is_line_feed after)) (bad number)
+        behind [] i = pieces_some is_line_feed after i
+        behind (q ∷ ps) i = rw i (gather_line number w.lines found.p q ps ys [] alone)
+
+    module _ (s' : Securities) where
+      pub walks_full : Enters s ys s' None → night_of t ≡ bad number
+      unfolding EntersAs
+      walks_full x = let f : has_room w.lines ys ≡ false = x.is w.lines w.held in sym (rw f at stepped)
+
+      pub walks_on : (at : ℕ) → Enters s ys s' (Some at) → Walks t s' after (number + 1)
+      unfolding EntersAs
+      walks_on at x =
+          let f : (has_room w.lines ys ≡ true) × HeldBy (w.lines ++ ys ∷ []) s' = x.is w.lines w.held in
+          let j : number + 1 ≡ suc number = omega arith in
+          record {
+            lines = w.lines ++ ys ∷ [];
+            fits = w.fits;
+            few_lines = omega (arith, w.few_lines, further);
+            held = f.1;
+            left = rw j (rw f.0 at stepped);
+          }
+
+      -- how many securities there are then
+      pub walks_few : (at : ℕ) → Enters s ys s' (Some at) → s'.count ≤ securities_most
+      unfolding EntersAs
+      walks_few at x = (x.is w.lines w.held).1.few

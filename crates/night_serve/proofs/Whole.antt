@@ -11,19 +11,17 @@ use lib.Seq.{length-sets, take-add, length-take-le, get_or-take, drop-append_sea
 use Rattle.paper.specs.Lists.{pick, some}
 use Rattle.paper.specs.Ranges.{unsigned}
 use Rattle.paper.proofs.Logic.{not_true_and_false}
-use Rattle.text_out.specs.Wrote.{Wrote, then, wider}
 use Rattle.text_protocol.specs.declared.Pairs.{Pairs}
 use Rattle.night_protocol.specs.Night.{Night, good, bad, night_of, is_among, joined, firsts, firsts_behind, ids_of}
 use Rattle.night_protocol.specs.Night.{rows_in}
 use Rattle.night_protocol.specs.Sheet.{day_numbers, words_most, evaluate_all, sheet_ids, sheet_text}
 use Rattle.night_protocol.proofs.Rows.{among_at, firsts_both}
-use Rattle.night_serve.specs.Tables.{Held, HeldNight, Reads}
-use Rattle.night_serve.specs.declared.reading.Gathered.{Gathered}
-use Rattle.night_serve.specs.declared.reading.Gathered.TheVariants as gathered
+use Rattle.night_serve.specs.declared.reading.Securities.{Securities}
+use Rattle.std.specs.Prelude.{Option, Some, None, Result, Ok, Err}
 use Rattle.text_evidence.specs.Evidence.{unwritten, Hands}
 use Rattle.night_serve.specs.declared.Served.{Served}
-use Rattle.night_serve.specs.Serving.{head_most, line_most, sheet_room, Joins, HeldSome, PrintsText, PrintsAll}
-use Rattle.night_serve.specs.Serving.{Answers}
+use Rattle.night_serve.specs.Tables.{HeldBy, HeldSome, Reads}
+use Rattle.night_serve.specs.Serving.{Joins, PrintsText, PrintsAll, Answers}
 use Rattle.night_serve.proofs.Lines.{evaluate_both}
 
 -- those that are joined behind others
@@ -72,88 +70,73 @@ none_behind zs p lines base (y ∷ ys) h =
     go true i e f = e
     go false i e f = rw (h y i, f)
 
-module _ (zs : List ℤ) (p : Pairs) (ids counts : List ℕ) (figures : List ℤ) (n : ℕ) (sheet₀ sheet₁ sheet₂ : List ℕ)
-    (len : ℕ) (ids' : List ℕ) (m r : ℕ) (held : HeldSome ids counts figures n)
-    (few : length zs ≤ words_most) (t : PrintsText zs p ids counts figures n sheet₀ sheet₁ len)
-    (j : Joins ids n (drop day_numbers zs) ids' m)
-    (a : Wrote sheet₁ len sheet₂ r (evaluate_all zs p [] (take (m - n) (drop n ids'))) ((head_most + 1) * (m - n))) where
-  room : line_most * n + (head_most + 1) * (m - n) ≤ sheet_room
-  room = omega (arith, held.held.few, j.high, length-drop day_numbers zs)
-
-  module _ (lines : List (List ℤ)) (h : Held lines ids counts figures n) where
+module _ (zs : List ℤ) (p : Pairs) (s : Securities) (sheet sheet' ids' : List ℕ) (m : ℕ)
+    (t : PrintsText zs p s sheet) (j : Joins s.ids s.count (drop day_numbers zs) ids' m)
+    (a : sheet' ≡ sheet ++ evaluate_all zs p [] (take (m - s.count) (drop s.count ids'))) where
+  module _ (lines : List (List ℤ)) (h : HeldBy lines s) where
     abbrev asked : List ℕ
     asked = map unsigned (drop day_numbers zs)
 
     behind : List ℕ
-    behind = take (m - n) (drop n ids')
+    behind = take (m - s.count) (drop s.count ids')
 
-    whole : take n ids ++ take (m - n) (drop n ids') ≡ firsts_behind (take n ids) asked
+    whole : take s.count s.ids ++ take (m - s.count) (drop s.count ids') ≡ firsts_behind (take s.count s.ids) asked
     whole =
-        let e : n + (m - n) ≡ m = omega (arith, j.low) in
-        ap (λ (x : List ℕ). x ++ take (m - n) (drop n ids')) (sym j.kept)
-        ∙ sym (take-add n (m - n) ids') ∙ ap (λ (x : ℕ). take x ids') e ∙ j.are
+        let e : s.count + (m - s.count) ≡ m = omega (arith, j.low) in
+        ap (λ (x : List ℕ). x ++ take (m - s.count) (drop s.count ids')) (sym j.kept)
+        ∙ sym (take-add s.count (m - s.count) ids') ∙ ap (λ (x : ℕ). take x ids') e ∙ j.are
 
-    is_added : take (m - n) (drop n ids') ≡ added (take n ids) asked
+    is_added : take (m - s.count) (drop s.count ids') ≡ added (take s.count s.ids) asked
     is_added =
-        sym (drop-append_seam (take n ids) (take (m - n) (drop n ids')))
-        ∙ ap (drop (length (take n ids))) (whole ∙ behind_added (take n ids) asked)
-        ∙ drop-append_seam (take n ids) (added (take n ids) asked)
+        sym (drop-append_seam (take s.count s.ids) (take (m - s.count) (drop s.count ids')))
+        ∙ ap (drop (length (take s.count s.ids))) (whole ∙ behind_added (take s.count s.ids) asked)
+        ∙ drop-append_seam (take s.count s.ids) (added (take s.count s.ids) asked)
 
-    no_rows : (z : ℕ) → is_among z (take n ids) ≡ false → rows_in z lines ≡ []
+    no_rows : (z : ℕ) → is_among z (take s.count s.ids) ≡ false → rows_in z lines ≡ []
     no_rows z e =
         h.others z
-        (λ i k f. not_true_and_false (is_among z (take n ids))
-        (among_at (take n ids) i z (rw (length-take-le n ids (omega (arith, h.ids_long, h.few))) k)
-        (get_or-take n ids i 0 k ∙ f))
+        (λ i k f. not_true_and_false (is_among z (take s.count s.ids))
+        (among_at (take s.count s.ids) i z (rw (length-take-le s.count s.ids (omega (arith, h.ids_long, h.few))) k)
+        (get_or-take s.count s.ids i 0 k ∙ f))
         e)
 
-    the_ids : sheet_ids zs lines ≡ take n ids ++ take (m - n) (drop n ids')
+    the_ids : sheet_ids zs lines ≡ take s.count s.ids ++ take (m - s.count) (drop s.count ids')
     unfolding sheet_ids firsts
     the_ids =
         firsts_both [] (ids_of lines) asked ∙ ap (λ (x : List ℕ). firsts_behind x asked) (sym h.are) ∙ sym whole
 
-    text_is : evaluate_all zs p lines (take n ids) ++ evaluate_all zs p [] (take (m - n) (drop n ids'))
+    text_is : evaluate_all zs p lines (take s.count s.ids) ++ evaluate_all zs p [] (take (m - s.count) (drop s.count ids'))
         ≡ sheet_text zs p (good lines)
     unfolding sheet_text
     text_is =
         sym (ap (evaluate_all zs p lines) the_ids
-        ∙ evaluate_both zs p lines (take n ids) (take (m - n) (drop n ids'))
-        ∙ ap (λ (x : List ℕ). evaluate_all zs p lines (take n ids) ++ x)
-        (ap (evaluate_all zs p lines) is_added ∙ none_behind zs p lines (take n ids) asked no_rows
+        ∙ evaluate_both zs p lines (take s.count s.ids) (take (m - s.count) (drop s.count ids'))
+        ∙ ap (λ (x : List ℕ). evaluate_all zs p lines (take s.count s.ids) ++ x)
+        (ap (evaluate_all zs p lines) is_added ∙ none_behind zs p lines (take s.count s.ids) asked no_rows
         ∙ ap (evaluate_all zs p []) (sym is_added)))
 
-    the_text : Wrote sheet₀ 0 sheet₂ r (sheet_text zs p (good lines)) sheet_room
-    the_text = wider (rw text_is at (then (t.is lines h) a)) room
-
-  pub prints_all : PrintsAll zs p ids counts figures n sheet₀ sheet₂ r
+  pub prints_all : PrintsAll zs p s sheet'
   prints_all =
       record {
-        long =
-            ap length a.bytes ∙ length-sets sheet₁ len (evaluate_all zs p [] (take (m - n) (drop n ids'))) ∙ t.long;
-        fits = omega (arith, a.most, t.most, room);
-        is = the_text;
+        is = λ lines h.
+            a ∙ ap (λ (x : List ℕ). x ++ evaluate_all zs p [] (take (m - s.count) (drop s.count ids'))) (t.is lines h)
+            ∙ text_is lines h;
       }
 
 -- ---- what is answered
 
-pub good_held : {t ids counts : List ℕ} {figures : List ℤ} {r : Gathered} {n : ℕ} → r ≡ gathered.Good n
-    → Reads t ids counts figures r → HeldNight t ids counts figures n
-unfolding Reads
-good_held e s = rw e at s
+module _ (t : List ℕ) (s : Securities) where
+  pub held_some : (u : Unit {0}) → Reads t s (Ok u) → HeldSome s
+  unfolding Reads
+  held_some u h = record { lines = h.lines; held = h.held }
 
-pub bad_at_lem : (t ids counts : List ℕ) (figures : List ℤ) {r : Gathered} {n : ℕ} → r ≡ gathered.Bad n
-    → Reads t ids counts figures r → night_of t ≡ bad n
-unfolding Reads
-bad_at_lem t ids counts figures e s = rw e at s
+  module _ (zs : List ℤ) (p : Pairs) (sheet : List ℕ) (r : Served) where
+    pub answers_good : (u : Unit {0}) → Reads t s (Ok u) → PrintsAll zs p s sheet → r.fault ≡ None
+        → Hands (length sheet) unwritten r.told → Answers zs p sheet r (night_of t)
+    unfolding Reads Answers
+    answers_good u h a f w = rw h.is (f, a.is h.lines h.held, w)
 
-module _ (zs : List ℤ) (p : Pairs) (sheet sheet' : List ℕ) (r : Served) (size : ℕ) (night : Night) where
-  pub answers_good : {ids counts : List ℕ} {figures : List ℤ} {n : ℕ} (lines : List (List ℤ)) → night ≡ good lines
-      → Held lines ids counts figures n → PrintsAll zs p ids counts figures n sheet sheet' size → r.bad ≡ false
-      → Hands size unwritten r.told → Answers zs p sheet sheet' r size night
-  unfolding Answers
-  answers_good lines e h s f w = rw e (f, s.is lines h, w)
-
-  pub answers_bad : (n : ℕ) → night ≡ bad n → r.bad ≡ true → r.line ≡ n → r.told ≡ unwritten
-      → Answers zs p sheet sheet' r size night
-  unfolding Answers
-  answers_bad n e f l w = rw e (f, l, w)
+    pub answers_bad : (n : ℕ) → Reads t s (Err n) → r.fault ≡ Some n → r.told ≡ unwritten
+        → Answers zs p sheet r (night_of t)
+    unfolding Reads Answers
+    answers_bad n e f w = rw e (f, w)

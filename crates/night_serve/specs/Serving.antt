@@ -1,8 +1,7 @@
 -- What the program `night` is asked for, what it takes in, and what it prints.
-use Rattle.std.specs.Prelude.{◌≡◌, true, false, List, map, ℕ, ◌+◌, ◌*◌, ◌≤◌, ℤ, ltb, length, take}
+use Rattle.std.specs.Prelude.{◌≡◌, true, false, List, map, Option, Some, None, ℕ, ◌+◌, ◌*◌, ◌≤◌, ℤ, ltb, length, take}
 use Rattle.paper.specs.Lists.{pick}
 use Rattle.paper.specs.Ranges.{unsigned}
-use Rattle.text_out.specs.Wrote.{Wrote}
 use Rattle.text_out.specs.Places.{number_bytes, next_bytes, next_signed_bytes}
 use Rattle.text_out.specs.Sizes.{word_bytes, rows_bytes}
 use Rattle.text_protocol.specs.declared.Pairs.{Pairs}
@@ -15,7 +14,8 @@ use Rattle.night_protocol.specs.Sheet.{day_numbers, asked_most, words_most, aski
 use Rattle.night_protocol.specs.Sheet.{sheet_text}
 use Rattle.exchange_serve.specs.Rows.{TakesIn}
 use Rattle.text_evidence.specs.Evidence.{has_failed, unwritten, Hands}
-use Rattle.night_serve.specs.Tables.{Held}
+use Rattle.night_serve.specs.declared.reading.Securities.{Securities}
+use Rattle.night_serve.specs.Tables.{HeldBy}
 use Rattle.night_serve.specs.declared.Served.{Served}
 
 -- ---- how long a line may be
@@ -59,50 +59,35 @@ pub record Joins (ids : List ℕ) (n : ℕ) (asked : List ℤ) (ids' : List ℕ)
 
 -- ---- the sheet
 
--- the tables hold some lines
-pub record HeldSome (ids counts : List ℕ) (figures : List ℤ) (n : ℕ) : Type 0 where
-  pub lines : List (List ℤ)
-  pub held : Held lines ids counts figures n
-
 -- THE EVALUATIONS of the securities, whatever lines the tables hold
-pub record PrintsText (zs : List ℤ) (p : Pairs) (ids counts : List ℕ) (figures : List ℤ) (n : ℕ) (sheet sheet' : List ℕ)
-    (r : ℕ) : Type 0 where
-  pub long : length sheet' ≡ length sheet
-  pub most : r ≤ line_most * n
-  pub is : (lines : List (List ℤ)) → Held lines ids counts figures n
-      → Wrote sheet 0 sheet' r (evaluate_all zs p lines (take n ids)) (line_most * n)
+pub record PrintsText (zs : List ℤ) (p : Pairs) (s : Securities) (sheet : List ℕ) : Type 0 where
+  pub most : length sheet ≤ line_most * s.count
+  pub is : (lines : List (List ℤ)) → HeldBy lines s → sheet ≡ evaluate_all zs p lines (take s.count s.ids)
 
 -- THE WHOLE SHEET: the securities of the lines, and behind them those that are asked for
-pub record PrintsAll (zs : List ℤ) (p : Pairs) (ids counts : List ℕ) (figures : List ℤ) (n : ℕ) (sheet sheet' : List ℕ)
-    (r : ℕ) : Type 0 where
-  pub long : length sheet' ≡ length sheet
-  pub fits : r ≤ sheet_room
-  pub is : (lines : List (List ℤ)) → Held lines ids counts figures n
-      → Wrote sheet 0 sheet' r (sheet_text zs p (good lines)) sheet_room
+pub record PrintsAll (zs : List ℤ) (p : Pairs) (s : Securities) (sheet : List ℕ) : Type 0 where
+  pub is : (lines : List (List ℤ)) → HeldBy lines s → sheet ≡ sheet_text zs p (good lines)
 
 -- what is answered to what a text says: the sheet, handed over whole; or that it is bad, and nothing is handed over
-unfoldable pub Answers : (zs : List ℤ) → Pairs → (sheet sheet' : List ℕ) → Served → (size : ℕ) → Night → Type 0
-Answers zs p sheet sheet' r size (good lines) =
-    (r.bad ≡ false) × Wrote sheet 0 sheet' size (sheet_text zs p (good lines)) sheet_room
-    × Hands size unwritten r.told
-Answers zs p sheet sheet' r size (bad n) = (r.bad ≡ true) × (r.line ≡ n) × (r.told ≡ unwritten)
+unfoldable pub Answers : (zs : List ℤ) → Pairs → (sheet : List ℕ) → Served → Night → Type 0
+Answers zs p sheet r (good lines) =
+    (r.fault ≡ None) × (sheet ≡ sheet_text zs p (good lines)) × Hands (length sheet) unwritten r.told
+Answers zs p sheet r (bad n) = (r.fault ≡ Some n) × (r.told ≡ unwritten)
 
 -- THE PROGRAM: the text that is taken in is answered; nothing is handed over where a read failed
-pub record Serves (zs : List ℤ) (p : Pairs) (t sheet t' sheet' : List ℕ) (r : Served) : Type 0 where
+pub record Serves (zs : List ℤ) (p : Pairs) (t t' sheet : List ℕ) (r : Served) : Type 0 where
   pub end : ℕ
   pub takes : TakesIn t t' (record { end = end; read = r.read })
-  pub size : ℕ
-  pub answers : has_failed r.read ≡ false → Answers zs p sheet sheet' r size (night_of (take end t'))
+  pub answers : has_failed r.read ≡ false → Answers zs p sheet r (night_of (take end t'))
   pub silent : has_failed r.read ≡ true → r.told ≡ unwritten
 
 -- the same of buffers that nobody is lent: that of the text has a byte more than a text may have
 pub record Answered (zs : List ℤ) (p : Pairs) (r : Served) : Type 0 where
   pub t : List ℕ
-  pub sheet : List ℕ
   pub t' : List ℕ
-  pub sheet' : List ℕ
+  pub sheet : List ℕ
   pub space : length t ≡ night_most + 1
-  pub is : Serves zs p t sheet t' sheet' r
+  pub is : Serves zs p t t' sheet r
 
 -- ---- the words
 

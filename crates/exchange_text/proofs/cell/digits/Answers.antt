@@ -1,29 +1,32 @@
-use Rattle.exchange_text.proofs.CellTurns.{counting_none, counting_all, counting_low, counting_high}
-use Rattle.exchange_text.proofs.CellTurns.{counting_over, counting_more}
+use mathlib.Core.Path.{refl, sym, ◌∙◌}
+use native.Mathlib.Omega.{arith}
+use Rattle.exchange_protocol.specs.Scan.{digits}
+use Rattle.exchange_text.proofs.CellTurns.{counting_none, counting_all, counting_stops, counting_over, counting_more}
+use Rattle.exchange_text.proofs.CellTurns.{digit_test}
 use Rattle.exchange_text.proofs.cell.digits.Goals as goal
 
 pub loop-i-init : goal.loop-i-init
-loop-i-init c = counting_none _ _ _ _ _ c.stop_of-stop.ensures c.requires.1
+loop-i-init c = counting_none _ _ _ c.requires
 
-pub returns-then-b-lt-DIGIT_ZERO : goal.returns-then-b-lt-DIGIT_ZERO
-returns-then-b-lt-DIGIT_ZERO c =
-    counting_low _ _ _ _ _ _ _ c.loop-i.invariant c.loop-i-test.true _ c.wide-b.ensures
-    c.if-b-lt-DIGIT_ZERO.true
+pub returns-then-not-is_ascii_digit-clause-reads : goal.returns-then-not-is_ascii_digit-clause-reads
+returns-then-not-is_ascii_digit-clause-reads c =
+    counting_stops _ _ _ _ c.min-stop.ensures _ _ c.loop-i.invariant c.loop-i-test.true _ refl
+    (sym (digit_test _) ∙ sym c.if-not-is_ascii_digit.ensures.value)
 
-pub returns-then-b-gt-DIGIT_NINE : goal.returns-then-b-gt-DIGIT_NINE
-returns-then-b-gt-DIGIT_NINE c =
-    counting_high _ _ _ _ _ _ _ c.loop-i.invariant c.loop-i-test.true _ c.wide-b.ensures
-    c.if-b-gt-DIGIT_NINE.true
+pub returns-then-not-is_ascii_digit-clause-small : goal.returns-then-not-is_ascii_digit-clause-small
+returns-then-not-is_ascii_digit-clause-small c = c.loop-i.invariant.small
 
-pub returns-then-y-gt-NUMBER_MOST : goal.returns-then-y-gt-NUMBER_MOST
-returns-then-y-gt-NUMBER_MOST c =
-    counting_over _ _ _ _ _ _ _ c.loop-i.invariant c.loop-i-test.true _ c.wide-b.ensures
-    c.if-b-lt-DIGIT_ZERO.false c.if-b-gt-DIGIT_NINE.false c.if-y-gt-NUMBER_MOST.true
+pub returns-then-n-gt-NUMBER_MOST-clause-reads : goal.returns-then-n-gt-NUMBER_MOST-clause-reads
+returns-then-n-gt-NUMBER_MOST-clause-reads c =
+    counting_over _ _ _ _ c.min-stop.ensures _ _ c.loop-i.invariant c.loop-i-test.true _ refl
+    (sym (digit_test _) ∙ sym c.if-not-is_ascii_digit.ensures.value) (omega arith)
 
 pub loop-i-preserved : goal.loop-i-preserved
 loop-i-preserved c =
-    counting_more _ _ _ _ _ _ _ c.loop-i.invariant c.loop-i-test.true _ c.wide-b.ensures
-    c.if-b-lt-DIGIT_ZERO.false c.if-b-gt-DIGIT_NINE.false c.if-y-gt-NUMBER_MOST.false
+    rw c.from.ensures
+    (counting_more _ _ _ _ c.min-stop.ensures _ _ c.loop-i.invariant c.loop-i-test.true _ refl
+    (sym (digit_test _) ∙ sym c.if-not-is_ascii_digit.ensures.value) (omega arith))
 
-pub returns : goal.returns
-returns c = counting_all _ _ _ _ _ _ _ c.loop-i.invariant c.loop-i-test.false
+pub returns-clause-reads : goal.returns-clause-reads
+returns-clause-reads c =
+    counting_all _ _ _ _ c.min-stop.ensures _ _ c.loop-i.invariant c.loop-i-test.false c.loop-i.auto.i-end

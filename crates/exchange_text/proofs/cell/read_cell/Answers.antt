@@ -1,56 +1,41 @@
 -- `exchange_text::cell::read_cell` meets its contract: a minus, an empty field and a number are told apart by the first
 -- bytes.
-use mathlib.Core.Path.{sym, ◌∙◌}
-use Rattle.exchange_text.proofs.CellTurns.{counted, not_counted, plain_fits, turned_code_fits, positive_is}
-use Rattle.exchange_text.proofs.CellTurns.{turned_is}
+use Rattle.paper.proofs.Logic.{not_true_and_false}
 use Rattle.exchange_text.proofs.CellTurns.{cell_below, cell_above, cell_bad, cell_empty, cell_none}
+use Rattle.exchange_text.proofs.CellTurns.{plain_code, turned_code}
 use Rattle.exchange_text.proofs.cell.read_cell.Goals as goal
+use Rattle.exchange_text.proofs.cell.read_cell.Goals.{then-start-text, else-start-text}
+use Rattle.exchange_text.proofs.cell.read_cell.Goals.{else-column-via-then-column+else-start-text-2, else-column-via-else-column}
 
-pub number-part-requires : goal.number-part-requires
-number-part-requires c = (
-  c.behind_minus-start.ensures.1,
-  sym c.if-is_digit_at.true ∙ c.is_digit_at.ensures,
-  c.requires.1,
-)
+pub returns-in_err-number : goal.returns-in_err-number
+returns-in_err-number c =
+    rw c.from_residual.ensures
+    (cell_bad c.args.text.now c.args.column _ c.behind_minus-start.ensures _ _ c.in-Some.ensures
+    c.in_err-number.ensures.reads)
 
-pub returns-in_default : goal.returns-in_default
-returns-in_default c =
-    cell_bad _ c.args.c c.args.from _ c.behind_minus-start.ensures.0
-    (sym c.if-is_digit_at.true ∙ c.is_digit_at.ensures)
-    (not_counted c.in_default.is c.number-part.ensures)
+pub returns-in-Some : goal.returns-in-Some
+returns-in-Some c =
+    elim c.if-start-text.branch [
+      | then-start-text w ↦
+          rw (w.result-is, turned_code _ c.in_ok-number.ensures.small)
+          (cell_below _ _ _ c.behind_minus-start.ensures _ _ c.in-Some.ensures w.if-start-text.true _ _
+          c.in_ok-number.ensures.reads)
+      | else-start-text w ↦
+          rw (w.result-is, plain_code _ c.in_ok-number.ensures.small)
+          (cell_above _ _ _ c.behind_minus-start.ensures _ _ c.in-Some.ensures w.if-start-text.false _ _
+          c.in_ok-number.ensures.reads)
+    ]
 
-pub overflow_cast-result : goal.overflow_cast-result
-overflow_cast-result c =
-    plain_fits _ (counted _ _ c.in-Is.is c.number-part.ensures).small
-
-pub overflow_sub-result : goal.overflow_sub-result
-overflow_sub-result c =
-    turned_code_fits _ (counted _ _ c.in-Is.is c.number-part.ensures).small
-
-pub returns-then-from-start : goal.returns-then-from-start
-returns-then-from-start c =
-    cell_below _ c.args.c c.args.from _ c.behind_minus-start.ensures.0
-    (sym c.if-is_digit_at.true ∙ c.is_digit_at.ensures) c.if-from-start.true _
-    (turned_is _ _ c.behind_minus-start.result _ _ (counted _ _ c.in-Is.is
-    c.number-part.ensures))
-
-pub overflow_cast-result-then-is_digit_at : goal.overflow_cast-result-then-is_digit_at
-overflow_cast-result-then-is_digit_at c =
-    plain_fits _ (counted _ _ c.in-Is.is c.number-part.ensures).small
-
-pub returns-then-is_digit_at : goal.returns-then-is_digit_at
-returns-then-is_digit_at c =
-    cell_above _ c.args.c c.args.from _ c.behind_minus-start.ensures.0
-    (sym c.if-is_digit_at.true ∙ c.is_digit_at.ensures) c.if-from-start.false _
-    (positive_is _ _ c.behind_minus-start.result _ _ (counted _ _ c.in-Is.is
-    c.number-part.ensures))
-
-pub returns-then-empty-start : goal.returns-then-empty-start
-returns-then-empty-start c =
-    cell_empty _ c.args.c c.args.from _ c.behind_minus-start.ensures.0
-    (sym c.if-is_digit_at.false ∙ c.is_digit_at.ensures) c.requires.0 c.if-empty-start.true
+pub returns-then-start-text-2 : goal.returns-then-start-text-2
+returns-then-start-text-2 c =
+    cell_empty _ _ _ c.behind_minus-start.ensures c.in_default.ensures c.if-column.true c.if-start-text-2.true
 
 pub returns : goal.returns
 returns c =
-    cell_none _ c.args.c c.args.from _ c.behind_minus-start.ensures.0
-    (sym c.if-is_digit_at.false ∙ c.is_digit_at.ensures) c.if-empty-start.false
+    elim c.else-column.branch [
+      | else-column-via-then-column+else-start-text-2 w ↦
+          cell_none _ _ _ c.behind_minus-start.ensures c.in_default.ensures (λ k l. w.if-start-text-2.false l)
+      | else-column-via-else-column w ↦
+          cell_none _ _ _ c.behind_minus-start.ensures c.in_default.ensures
+          (λ k l. not_true_and_false _ k w.if-column.false)
+    ]

@@ -1,9 +1,0 @@
--- `exchange_text::cell::is_at` meets its contract: the byte at a place is the first of what is left from there on.
-use Rattle.exchange_text.proofs.CellTurns.{starts_at, starts_none}
-use Rattle.exchange_text.proofs.cell.is_at.Goals as goal
-
-pub returns-then-at-t : goal.returns-then-at-t
-returns-then-at-t c = starts_at _ _ _ c.if-at-t.true
-
-pub returns : goal.returns
-returns c = starts_none _ _ _ c.if-at-t.false

@@ -1,0 +1,13 @@
+-- What a function found in front of a lent text, and the text behind it, as the reading of the text says it.
+use Rattle.std.specs.Prelude.{List, ℕ, Option, Some, None}
+use Rattle.std.specs.Borrow.{Bor}
+use Rattle.exchange_protocol.specs.Scan.{Front, front, none, Passed, passed}
+
+abbrev pub front_of : {A : Type 0} → Option (A × Bor (List ℕ)) → Front A
+front_of (Some (x, rest)) = front x rest.now
+front_of None = none
+
+-- a byte or two
+abbrev pub passed_of : Option (Bor (List ℕ)) → Front Passed
+passed_of (Some rest) = front passed rest.now
+passed_of None = none
