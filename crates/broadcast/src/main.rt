@@ -5,6 +5,7 @@
 #![tactic(auto)]
 
 use text_protocol::Item;
+use text_word::same_bytes;
 
 // No argument is longer on Linux.
 const WORD_ROOM: usize = 131_072;
@@ -24,44 +25,30 @@ fn number_at(rt: HostRuntime, i: usize) -> Item {
 fn is_from(rt: HostRuntime, i: usize) -> bool {
     let mut word = word_buffer();
     let n = text_evidence::arg(rt, i, &mut word);
-    (n == 6)
-        & (word[0] == b'-')
-        & (word[1] == b'-')
-        & (word[2] == b'f')
-        & (word[3] == b'r')
-        & (word[4] == b'o')
-        & (word[5] == b'm')
+    same_bytes(&word[..n], b"--from")
 }
 
-// The line whose messages are the first that are told, by its number from 1 on; 0 where the words say none.
-fn first_told(rt: HostRuntime) -> u64 {
+// The line whose messages are the first that are told, by its number from 1 on; none where the words say none.
+fn first_told(rt: HostRuntime) -> Option<u64> {
     let count = text_evidence::arg_count(rt);
     if count <= 1 {
-        return 1;
+        return Some(1);
     }
-    if count != 3 {
-        return 0;
+    if count != 3 || !is_from(rt, 1) {
+        return None;
     }
-    if !is_from(rt, 1) {
-        return 0;
+    match number_at(rt, 2) {
+        Item::One(n) if 1 <= n => Some(exact::unsigned(n)),
+        _ => None,
     }
-    let item = number_at(rt, 2);
-    let Item::One(n) = item else {
-        return 0;
-    };
-    if n < 1 {
-        return 0;
-    }
-    exact::unsigned(n)
 }
 
 fn main(rt: HostRuntime) {
-    let from = first_told(rt);
-    if from == 0 {
+    let Some(from) = first_told(rt) else {
         let _ = rt.eprintln(
             "usage: broadcast [--from N], with the lines of an evening on standard input; N counts from 1",
         );
         return;
-    }
+    };
     text_serve::stream_on(rt, text_serve::fresh(), from);
 }

@@ -5,7 +5,8 @@ ghost use Rattle.std.specs.Prelude.{◌≡◌, ◌+◌, length};
 ghost use Rattle.exchange_protocol.specs.Exchange.{text_most};
 ghost use Rattle.exchange_serve.specs.Rows.{Asks, Answers};
 
-use exchange_serve::{AskedId, Served, TEXT_ROOM};
+use exchange_serve::{Served, TEXT_ROOM};
+use text_out::Text;
 
 fn text_buffer() -> [u8; TEXT_ROOM]
     ensures { text_most + 1 ≡ length result }
@@ -32,11 +33,11 @@ fn say_failed(rt: HostRuntime, wrote: bool) {
 }
 
 // Which security the only argument asks for.
-fn asked(rt: HostRuntime) -> AskedId
+fn asked(rt: HostRuntime) -> Option<u64>
     ensures { Asks result }
 {
     if text_evidence::arg_count(rt) != 2 {
-        return AskedId::Bad;
+        return None;
     }
     let mut word = word_buffer();
     let n = text_evidence::arg(rt, 1, &mut word);
@@ -48,7 +49,7 @@ fn serve(rt: HostRuntime, id: u64) -> Served
     ensures { Answers id result }
 {
     let mut text = text_buffer();
-    let mut out = text_evidence::large_buffer();
+    let mut out = Text::new();
     exchange_serve::serve(rt.stdin(), rt.stdout(), &mut text, &mut out, id)
 }
 
@@ -62,9 +63,8 @@ fn report(rt: HostRuntime, served: Served) {
 }
 
 fn main(rt: HostRuntime) {
-    let asked = asked(rt);
-    match asked {
-        AskedId::Id(id) => report(rt, serve(rt, id)),
-        AskedId::Bad => say_usage(rt),
+    match asked(rt) {
+        Some(id) => report(rt, serve(rt, id)),
+        None => say_usage(rt),
     }
 }

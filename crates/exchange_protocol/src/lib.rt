@@ -15,7 +15,8 @@ pub struct Column {
 }
 
 // What a text says of one security: done, how many rows it has, their numbers, seven to a row, and zeros past the last;
-// or a bad line (15), its number, and zeros.
+// or a bad line (15), its number, and zeros. A record and no Result: the theorems on `Says` (`says_unique`, `line_zero`,
+// `none_outside`) speak of all its fields, zeros too.
 #[derive(Clone, Copy)]
 pub struct Reading {
     pub verdict: Verdict,

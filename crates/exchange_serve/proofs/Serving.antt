@@ -1,10 +1,11 @@
 -- Why the functions of this crate meet their contracts, as laws over lists and numbers: the id that an argument asks
--- for, digit by digit, the text, read by read, and the two answers. No law speaks of memory, so that the proofs of the
--- functions only cite them.
+-- for, digit by digit, the text, read by read, and the answer. No law speaks of memory, so that the proofs of the functions only
+-- cite them.
 use mathlib.Core.Path.{◌≡◌, refl, sym, ◌∙◌}
 use mathlib.Core.Bool.{Bool, true, false}
-use mathlib.Core.List.{List, [], ◌∷◌}
-use Prim.Native.Nat.{ℕ, suc, ◌+◌, ◌-◌, ◌*◌, ◌≤◌, ◌<◌}
+use mathlib.Core.List.{List, [], ◌∷◌, ◌++◌, append_assoc}
+use mathlib.Core.Logic.{◌⊎◌, inl, inr}
+use Prim.Native.Nat.{ℕ, suc, min, ◌+◌, ◌-◌, ◌*◌, ◌≤◌, ◌<◌}
 use native.Mathlib.Omega.{arith}
 use lib.Dec.{leb}
 use lib.IntN.{pos}
@@ -14,21 +15,17 @@ use borrow.Author.Tests.{le-leb, lt-leb, leb-false, lt-ltb, le-ltb, eq-eqb, ne_e
 use Rattle.paper.specs.Lists.{pick}
 use Rattle.paper.specs.Numbers.{id_most, row_numbers}
 use Rattle.paper.specs.Verdicts.{number_of, is_done}
-use Rattle.text_bytes.specs.Bytes.{line_feed, digit_zero, digit_nine}
-use Rattle.std.specs.declared.option.Option.TheVariants.{None}
-use Rattle.text_bytes.specs.Numbers.{decimal, is_digit, size_from, size_of, answer_text}
-use Rattle.text_bytes.proofs.Spelling.{within_is_digit, low_no_digit, high_no_digit}
-use Rattle.text_out.specs.Wrote.{Wrote, then, wider}
-use Rattle.text_out.specs.Told.{Told, both, wrote}
+use Rattle.paper.proofs.Logic.{le_or_lt}
+use Rattle.std.specs.Char.{is_ascii_digit}
+use Rattle.text_bytes.specs.Bytes.{line_feed, digit_zero}
+use Rattle.std.specs.declared.option.Option.TheVariants.{None, Some}
+use Rattle.text_bytes.specs.Numbers.{decimal, spaced, is_digit, size_from, size_of, answer_text}
+use Rattle.text_out.specs.Appends.{spaced_both}
 use Rattle.exchange_protocol.specs.declared.Reading.{Reading}
 use Rattle.text_evidence.specs.declared.Delivered.{Delivered}
 use Rattle.text_evidence.specs.Evidence.{Counted, counted_none, counted_on, unread, has_ended, ended_is_none, Fills}
 use Rattle.text_evidence.specs.Evidence.{not_ended_is_some}
-use Rattle.exchange_serve.specs.declared.AskedId.TheVariants as asked
 use Rattle.exchange_serve.specs.Rows.{settled, asked_of, past_ids, grown, TakesIn, reading_numbers, reading_text}
-use Rattle.exchange_serve.specs.Rows.{reading_most}
-use Rattle.text_out.specs.Sizes.{rows_bytes}
-use Rattle.text_out.specs.Places.{number_bytes, next_bytes}
 
 -- ---- the argument
 
@@ -55,20 +52,24 @@ grown_same n d t = go (leb (10 * n + d) id_most) refl
     go true e = refl
     go false e = over past_ids (10 * n + d) t (omega arith) (leb-false (10 * n + d) id_most e)
 
-pub grown_small : (n d : ℕ) → 10 * n + d ≤ id_most → 10 * n + d ≡ grown n d
+pub grown_is : (n d : ℕ) → min (10 * n + d) past_ids ≡ grown n d
 unfolding grown
-grown_small n d h = rw (le-leb (10 * n + d) id_most h)
+grown_is n d = go (le_or_lt (10 * n + d) id_most)
+  where
+    go : (10 * n + d ≤ id_most) ⊎ (id_most < 10 * n + d) → min (10 * n + d) past_ids ≡ grown n d
+    go (inl h) = rw (le-leb (10 * n + d) id_most h) (omega arith)
+    go (inr h) = rw (lt-leb (10 * n + d) id_most h) (omega arith)
 
-pub grown_over : (n d : ℕ) → id_most < 10 * n + d → past_ids ≡ grown n d
-unfolding grown
-grown_over n d h = rw (lt-leb (10 * n + d) id_most h)
+digit_test : (b : ℕ) → is_ascii_digit b ≡ is_digit b
+unfolding is_digit
+digit_test b = refl
 
 pub record Asking (p : List ℕ) (i n : ℕ) : Type 0 where
   pub in_p : i ≤ length p
   pub most : n ≤ past_ids
   pub rest : settled (size_from n (drop i p)) ≡ asked_of p
 
-pub none_asked : (p : List ℕ) → length p ≡ 0 → asked.Bad ≡ asked_of p
+pub none_asked : (p : List ℕ) → length p ≡ 0 → None ≡ asked_of p
 unfolding asked_of settled size_of
 none_asked [] h = refl
 none_asked (b ∷ p) h = let z : ⊥ = omega arith in absurd z
@@ -79,11 +80,11 @@ asking_none [] h = absurd (h refl)
 asking_none (b ∷ p) h = record { in_p = omega arith; most = omega arith; rest = refl }
 
 module _ (p : List ℕ) (i n : ℕ) (a : Asking p i n) where
-  pub asking_small : length p ≤ i → n ≤ id_most → asked.Id n ≡ asked_of p
+  pub asking_small : length p ≤ i → n ≤ id_most → Some n ≡ asked_of p
   unfolding settled size_from
   asking_small h k = rw (drop_of_length-le p h, le-leb n id_most k) at a.rest
 
-  pub asking_over : length p ≤ i → id_most < n → asked.Id 0 ≡ asked_of p
+  pub asking_over : length p ≤ i → id_most < n → Some 0 ≡ asked_of p
   unfolding settled size_from
   asking_over h k = rw (drop_of_length-le p h, lt-leb n id_most k) at a.rest
 
@@ -92,25 +93,22 @@ module _ (p : List ℕ) (i n : ℕ) (a : Asking p i n) where
     unfolding size_from
     opened = rw e (rw (drop-cons p i 0 h) at a.rest)
 
-    no_digit : is_digit b ≡ false → asked.Bad ≡ asked_of p
+    no_digit : is_digit b ≡ false → None ≡ asked_of p
     unfolding settled
     no_digit d = rw d at opened
 
-    pub asking_low : b < digit_zero → asked.Bad ≡ asked_of p
-    asking_low k = no_digit (low_no_digit b k)
+    pub asking_stops : is_ascii_digit b ≡ false → None ≡ asked_of p
+    asking_stops k = no_digit (sym (digit_test b) ∙ k)
 
-    pub asking_high : digit_nine < b → asked.Bad ≡ asked_of p
-    asking_high k = no_digit (high_no_digit b k)
-
-    pub asking_more : digit_zero ≤ b → b ≤ digit_nine → (m : ℕ) → (m ≡ grown n (b - digit_zero)) × (m ≤ past_ids)
+    pub asking_more : is_ascii_digit b ≡ true → (m : ℕ) → (m ≡ grown n (b - digit_zero)) × (m ≤ past_ids)
         → Asking p (i + 1) m
-    asking_more lo hi m g =
+    asking_more d m g =
         let f : i + 1 ≡ suc i = omega arith in
         record {
           in_p = omega arith;
           most = g.1;
           rest =
-              rw (f, g.0) (grown_same n (b - digit_zero) (drop (suc i) p) ∙ (rw (within_is_digit b lo hi) at opened));
+              rw (f, g.0) (grown_same n (b - digit_zero) (drop (suc i) p) ∙ (rw (sym (digit_test b) ∙ d) at opened));
         }
 
 -- ---- the text
@@ -165,19 +163,18 @@ module _ {b₀ b : List ℕ} {len : ℕ} {read : Delivered} (a : Taking b₀ b l
 
 -- ---- the answer
 
--- a bad line, and rows
-module _ (r : Reading) (b : List ℕ) (n : ℕ) {b' b'' c : List ℕ} {n' n'' e : ℕ} (no' : ℕ)
-    (is : no' ≡ number_of r.verdict) (p : Wrote b n b' n' (decimal no') number_bytes) where
-  pub say_bad_line : (no' ≡ 0 → ⊥) → Told b' n' b'' n'' (pos r.line ∷ []) next_bytes
-      → Wrote b'' n'' c e (line_feed ∷ []) 1
-      → Wrote b n c e (reading_text r) reading_most
+module _ (r : Reading) (old : List ℕ) where
+  pub say_rows : number_of r.verdict ≡ 0
+      → old ++ decimal (number_of r.verdict) ++ spaced (pos r.count ∷ []) ++ spaced (take (row_numbers * r.count) r.rows)
+      ++ (line_feed ∷ []) ≡ old ++ reading_text r
   unfolding reading_text reading_numbers answer_text is_done
-  say_bad_line h q w =
-      rw (← is, ne_eqb no' 0 h) (wider (then (then p (wrote q)) w) (omega arith))
+  say_rows e =
+      let s : spaced (pos r.count ∷ take (row_numbers * r.count) r.rows)
+      ≡ spaced (pos r.count ∷ []) ++ spaced (take (row_numbers * r.count) r.rows) =
+      spaced_both (pos r.count ∷ []) (take (row_numbers * r.count) r.rows) in
+      rw (eq-eqb (number_of r.verdict) 0 e, s) (simp append_assoc)
 
-  pub say_rows : {d : List ℕ} {m : ℕ} → no' ≡ 0 → Told b' n' b'' n'' (pos r.count ∷ []) next_bytes
-      → Told b'' n'' d m (take (row_numbers * r.count) r.rows) rows_bytes → Wrote d m c e (line_feed ∷ []) 1
-      → Wrote b n c e (reading_text r) reading_most
+  pub say_bad_line : (number_of r.verdict ≡ 0 → ⊥)
+      → old ++ decimal (number_of r.verdict) ++ spaced (pos r.line ∷ []) ++ (line_feed ∷ []) ≡ old ++ reading_text r
   unfolding reading_text reading_numbers answer_text is_done
-  say_rows h q k w =
-      rw (← is, eq-eqb no' 0 h) (wider (then (then p (wrote (both q k))) w) (omega arith))
+  say_bad_line h = rw (ne_eqb (number_of r.verdict) 0 h) (simp append_assoc)

@@ -10,24 +10,21 @@ use Rattle.exchange_protocol.specs.declared.Reading.{Reading}
 use Rattle.exchange_protocol.specs.Exchange.{text_most}
 use Rattle.exchange_protocol.specs.Scan.{reading}
 use Rattle.text_evidence.specs.Evidence.{Counted, has_ended, has_failed, unwritten, Hands}
-use Rattle.exchange_serve.specs.declared.AskedId.{AskedId}
-use Rattle.exchange_serve.specs.declared.AskedId.TheVariants as asked
 use Rattle.exchange_serve.specs.declared.Taken.{Taken}
 use Rattle.exchange_serve.specs.declared.Served.{Served}
-use Rattle.text_out.specs.Wrote.{Wrote}
 use Rattle.text_out.specs.Places.{number_bytes, next_bytes}
 use Rattle.text_out.specs.Sizes.{rows_bytes}
 
 -- one digit or more, zeros may lead; a number above the greatest id asks as 0 does, for a security that is in no text
-unfoldable pub settled : Option ℕ → AskedId
-settled (Some n) = asked.Id (pick (leb n id_most) n 0)
-settled None = asked.Bad
+unfoldable pub settled : Option ℕ → Option ℕ
+settled (Some n) = Some (pick (leb n id_most) n 0)
+settled None = None
 
-unfoldable pub asked_of : List ℕ → AskedId
+unfoldable pub asked_of : List ℕ → Option ℕ
 asked_of p = settled (size_of p)
 
 -- what is asked for is what some word asks for
-pub record Asks (r : AskedId) : Type 0 where
+pub record Asks (r : Option ℕ) : Type 0 where
   pub word : List ℕ
   pub is : r ≡ asked_of word
 
@@ -61,19 +58,17 @@ reading_text r = answer_text (number_of r.verdict) (reading_numbers r)
 
 -- THE PROGRAM: the text that is taken in is answered, and the whole answer is handed to `write`; nothing is where a
 -- read failed
-pub record Serves (id : ℕ) (t o t' o' : List ℕ) (r : Served) : Type 0 where
+pub record Serves (id : ℕ) (t t' o : List ℕ) (r : Served) : Type 0 where
   pub end : ℕ
   pub takes : TakesIn t t' (record { end = end; read = r.read })
-  pub size : ℕ
   pub answers : has_failed r.read ≡ false
-      → Wrote o 0 o' size (reading_text (reading id (take end t'))) reading_most × Hands size unwritten r.told
+      → (o ≡ reading_text (reading id (take end t'))) × Hands (length o) unwritten r.told
   pub silent : has_failed r.read ≡ true → r.told ≡ unwritten
 
 -- the same of buffers that nobody is lent: that of the text has a byte more than a text may have
 pub record Answers (id : ℕ) (r : Served) : Type 0 where
   pub t : List ℕ
-  pub o : List ℕ
   pub t' : List ℕ
-  pub o' : List ℕ
+  pub o : List ℕ
   pub space : length t ≡ text_most + 1
-  pub is : Serves id t o t' o' r
+  pub is : Serves id t t' o r
