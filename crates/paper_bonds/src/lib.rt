@@ -77,7 +77,7 @@ pub struct BondLimits {
 
 // What the call answers: the gross evaluation, the tentative rate, a rate a level, and limits a term. A refusal has its
 // verdict and every figure 0: `bond_zero` of `Demand1Beside` (demands/specs) speaks of those zeros, so it is no
-// `Result`.
+// `Result`. Rates go by level and limits by term, so they are no pairs.
 #[derive(Clone, Copy)]
 pub struct BondAnswer {
     pub verdict: Verdict,

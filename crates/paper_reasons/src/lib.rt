@@ -51,7 +51,8 @@ pub enum LevelReason {
     Maximum,
 }
 
-// "the first row, else term, at fault, or none": rows count from 1, terms are 0, 1, 2.
+// "the first row, else term, at fault, or none": rows count from 1, terms are 0, 1, 2. Which of the two it is says what
+// is at fault, and neither is a value beside an error; so it is no `Result`.
 #[derive(Clone, Copy)]
 pub enum Fault {
     Row(u64),
