@@ -42,7 +42,8 @@ fn flow_of(numbers: &[i64; FLOW_NUMBERS]) -> Flow
     }
 }
 
-// The first cash flow, and the numbers of the others.
+// The first cash flow, and the numbers of the others. What it shares with the `split_first` of `interest_maturities` is
+// the library's `split_first_chunk`: one function for both would take the reading of a record as a parameter, no plainer.
 fn split_first(numbers: &[i64]) -> Option<(Flow, &[i64])>
     ensures first { MatchOption result (length numbers.now < flow_numbers) (λ p. p.0 ≡ flow_of (flow_at numbers.now 0)) }
     ensures others { IfSome result (λ p. lent_flows numbers.now ≡ flow_at numbers.now 0 ∷ lent_flows p.1.now) }

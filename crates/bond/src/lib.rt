@@ -28,24 +28,25 @@ use paper_bonds::{Bond, BondAnswer, BondLimits, BondStatics};
 fn given_of(g: BondStatics) -> GivenStatics
     ensures { result ≡ bond_given g }
 {
-    let mut given = GivenStatics::LEAST;
-    given.h = g.h;
-    given.q = g.q;
-    given.wait = g.wait;
-    given.rh1 = g.rh1;
-    given.rh2 = g.rh2;
-    given.rh3 = g.rh3;
-    given.liq = g.liq;
-    given.min1 = g.min1;
-    given.min2 = g.min2;
-    given.min3 = g.min3;
-    given.smax = g.smax;
-    given.xpr = g.xpr;
-    given.pchmax = g.pchmax;
-    given.pclmax = g.pclmax;
-    given.monitoring = g.monitoring;
-    given.ewma = g.ewma;
-    given
+    GivenStatics {
+        h: g.h,
+        q: g.q,
+        wait: g.wait,
+        rh1: g.rh1,
+        rh2: g.rh2,
+        rh3: g.rh3,
+        liq: g.liq,
+        min1: g.min1,
+        min2: g.min2,
+        min3: g.min3,
+        smax: g.smax,
+        xpr: g.xpr,
+        pchmax: g.pchmax,
+        pclmax: g.pclmax,
+        monitoring: g.monitoring,
+        ewma: g.ewma,
+        ..GivenStatics::LEAST
+    }
 }
 
 // The three terms: a repo band that was worked out counts as one that is given.

@@ -154,7 +154,5 @@ pub fn limits_of(b: BondScale, st: Statics, p: Price, s1: Rate, x: Term) -> Bond
 pub fn is_crossed(x: BondLimits) -> bool
     ensures { result ≡ is_crossed x }
 {
-    let band = x.band;
-    let off = x.off;
-    limits::is_crossed(band) | limits::is_crossed(off)
+    limits::is_crossed(x.band) | limits::is_crossed(x.off)
 }

@@ -89,7 +89,8 @@ impl Key {
         rates::tentative::tentative_after(self.i.h, self.i.wait, t, self.k.tentative)
     }
 
-    // The least multiple of h at or above the greater of tentative + liquidity and the minimum.
+    // The least multiple of h at or above the greater of tentative + liquidity and the minimum. Three estimates ask that
+    // the tentative rate is in range: it is worked out on the way, and a type of it for three calls is no plainer.
     fn estimate(self, tentative: u64, minimum: u64) -> u64
         requires { (tentative ≤ repo_tentative_most) × (minimum ≤ repo_tentative_most) }
         ensures { result ≡ estimate_of self.i tentative minimum }
