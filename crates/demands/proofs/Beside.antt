@@ -25,8 +25,9 @@ use Rattle.paper_desk.proofs.Units.{gateway_answers_minus_four, gateway_answers_
 use Rattle.paper_interest.proofs.InterestRefusals as interest
 use Rattle.paper_bonds.proofs.BondRefusals as bond
 use Rattle.paper_messages.proofs.MessageLaws.{heard_verdict}
-use Rattle.paper_messages.proofs.Refusals.{read_zeros, write_untouched}
+use Rattle.paper_messages.proofs.Refusals.{wrote_verdict, read_zeros, write_untouched}
 use Rattle.exchange_protocol.proofs.Texts.{says_unique, no_line_zero}
+use Rattle.paper_messages.specs.Messages.{verdict_of}
 
 -- ---- an answer that is the first of its checks
 
@@ -140,11 +141,11 @@ demand_1_beside =
       bond_zero = bond.refused_zero;
       exchange = read_exactly;
       heard = λ buffer place.
-          judged (heard_at buffer place).verdict (read_checks (drop place buffer)) (21 ∷ 22 ∷ 21 ∷ 22 ∷ 23 ∷ [])
+          judged (verdict_of (heard_at buffer place)) (read_checks (drop place buffer)) (21 ∷ 22 ∷ 21 ∷ 22 ∷ 23 ∷ [])
           (heard_verdict buffer place) refl refl;
       heard_zero = read_zeros;
       wrote = λ buffer m.
-          judged (wrote_of buffer m).verdict (write_checks buffer m) (23 ∷ 24 ∷ []) refl refl refl;
+          judged (verdict_of (wrote_of buffer m)) (write_checks buffer m) (23 ∷ 24 ∷ []) (wrote_verdict buffer m) refl refl;
       wrote_nothing = write_untouched;
       level_rate_lem = λ g tentative m level. figured g _ _;
       range_limit_lem = λ g p rate side. figured g _ _;

@@ -15,10 +15,13 @@ use Rattle.paper_interest.specs.Interest.{interest_checks, refused_interest, int
 use Rattle.paper_bonds.specs.declared.Bond.{Bond}
 use Rattle.paper_bonds.specs.Bonds.{bond_checks, refused_bond, bond_answer}
 use Rattle.paper_messages.specs.declared.Message.{Message}
-use Rattle.paper_messages.specs.Messages.{write_checks, wrote_of, written, read_checks, refused_heard, heard_at}
+use Rattle.paper_messages.specs.Messages.{write_checks, wrote_of, written, read_checks, heard_at}
 use Rattle.text_bytes.specs.Bytes.{is_line_feed, pieces}
 use Rattle.exchange_protocol.specs.declared.Reading.{Reading}
 use Rattle.exchange_protocol.specs.Exchange.{text_most, Bad, refused, Says}
+use Rattle.paper_messages.specs.Messages.{verdict_of}
+use Rattle.std.specs.Prelude.{Err}
+use Rattle.std.specs.Result.{result_unwrap_or}
 
 -- ---- calls that are judged by a list of checks
 
@@ -71,14 +74,14 @@ pub record Demand1Beside : Type 0 where
   -- W-212: "A length outside 2 to 4,096 is 22 at once, otherwise 21 comes first, then 22, then 23", where a buffer that
   -- has no length at all is cut short; a refusal has zeros
   pub heard : (buffer : List ℕ) (place : ℕ)
-      → Judged (heard_at buffer place).verdict (read_checks (drop place buffer)) (21 ∷ 22 ∷ 21 ∷ 22 ∷ 23 ∷ [])
-  pub heard_zero : (buffer : List ℕ) (place : ℕ) → is_done (heard_at buffer place).verdict ≡ false
-      → heard_at buffer place ≡ refused_heard (heard_at buffer place).verdict
+      → Judged (verdict_of (heard_at buffer place)) (read_checks (drop place buffer)) (21 ∷ 22 ∷ 21 ∷ 22 ∷ 23 ∷ [])
+  pub heard_zero : (buffer : List ℕ) (place : ℕ) → is_done (verdict_of (heard_at buffer place)) ≡ false
+      → heard_at buffer place ≡ Err (verdict_of (heard_at buffer place))
   -- "The writer gives 23, then 24, no room, .. the buffer, which is left untouched"
   pub wrote : (buffer : List ℕ) (m : Message)
-      → Judged (wrote_of buffer m).verdict (write_checks buffer m) (23 ∷ 24 ∷ [])
-  pub wrote_nothing : (buffer : List ℕ) (m : Message) → is_done (wrote_of buffer m).verdict ≡ false
-      → (written buffer m ≡ buffer) × ((wrote_of buffer m).length ≡ 0)
+      → Judged (verdict_of (wrote_of buffer m)) (write_checks buffer m) (23 ∷ 24 ∷ [])
+  pub wrote_nothing : (buffer : List ℕ) (m : Message) → is_done (verdict_of (wrote_of buffer m)) ≡ false
+      → (written buffer m ≡ buffer) × (result_unwrap_or (wrote_of buffer m) 0 ≡ 0)
   -- the three calls of the gateway
   pub level_rate_lem : (g : GivenStatics) (tentative m level : ℕ)
       → Figured (level_call g tentative m level) g (level_in_range (statics_of g) tentative m level)

@@ -5,7 +5,7 @@
 pub mod streams; // an `end` that is judged, and how far a stream is heard
 
 ghost use Rattle.std.specs.Prelude.{◌≡◌, [], ◌∷◌, ◌++◌, ◌+◌, ◌≤◌, pos, length};
-ghost use Rattle.paper_messages.specs.Fields.{places, kind_word};
+ghost use Rattle.paper_messages.specs.Fields.{kind_word};
 ghost use Rattle.text_bytes.specs.Bytes.{room};
 ghost use Rattle.text_out.specs.Wrote.{Wrote};
 ghost use Rattle.text_out.specs.Sizes.{word_bytes};
@@ -14,8 +14,8 @@ ghost use Rattle.listen_lines.specs.Lines.{line_most};
 
 use crate::streams::{count_said, sum_said};
 use messages::kinds::{field_count, word_of};
-use paper::Row;
-use paper_messages::{Message, ReaderAnswer};
+use paper::{Row, Verdict};
+use paper_messages::{Heard, Message};
 use text_bytes::ROOM;
 use text_out::{put_byte, put_bytes, put_next, put_numbers};
 
@@ -40,7 +40,7 @@ fn put_kind(out: &mut [u8; ROOM], len: usize, kind: u64) -> usize
 
 // The word of a kind and the fields of a message.
 fn say_fields(out: &mut [u8; ROOM], len: usize, m: Message) -> usize
-    requires { (len + line_most ≤ room) × (length m.fields ≡ places) }
+    requires { len + line_most ≤ room }
     ensures { Wrote out.old len out.new result (word_line (kind_word m.kind) (fields_in m))
         line_most }
 {
@@ -77,7 +77,7 @@ fn say_two(out: &mut [u8; ROOM], len: usize, word: &[u8], x: u64, y: u64) -> usi
 
 // A message of a known kind: its word and its numbers. The sum of an `end` is told without a sign.
 fn say_message(out: &mut [u8; ROOM], len: usize, m: Message) -> usize
-    requires { (len + line_most ≤ room) × (length m.fields ≡ places) }
+    requires { len + line_most ≤ room }
     ensures { Wrote out.old len out.new result (word_line (kind_word m.kind) (numbers_in m))
         line_most }
 {
@@ -88,18 +88,23 @@ fn say_message(out: &mut [u8; ROOM], len: usize, m: Message) -> usize
 }
 
 // What is heard at a place of the input, and answered with `no`.
-pub fn say_heard(out: &mut [u8; ROOM], len: usize, place: u64, no: u64, h: ReaderAnswer) -> usize
-    requires { (len + line_most ≤ room) × (length h.message.fields ≡ places) }
-    ensures { Wrote out.old len out.new result (line_of place no h) line_most }
+pub fn say_heard(
+    out: &mut [u8; ROOM],
+    len: usize,
+    place: u64,
+    no: u64,
+    heard: Result<Heard, Verdict>,
+) -> usize
+    requires { len + line_most ≤ room }
+    ensures { Wrote out.old len out.new result (line_of place no heard) line_most }
 {
-    let message = h.message;
-    if no != 0 {
-        return say_two(out, len, b"refused", no, place);
+    match heard {
+        Ok(h) if no == 0 => match h.message {
+            Some(m) => say_message(out, len, m),
+            None => say_two(out, len, b"unknown", h.kind, h.length),
+        },
+        _ => say_two(out, len, b"refused", no, place),
     }
-    if h.known {
-        return say_message(out, len, message);
-    }
-    say_two(out, len, b"unknown", h.kind, h.length)
 }
 
 // A stream of so many messages that has no end.

@@ -1,14 +1,16 @@
 // docs/BROADCAST.md, "A whole stream": what is answered of a message in its stream, and how far the stream is heard
 // behind it.
-ghost use Rattle.std.specs.Prelude.{◌≡◌, ◌<◌, length};
+ghost use Rattle.std.specs.Prelude.{◌≡◌, ◌<◌};
 ghost use Rattle.paper.specs.Numbers.{past_every};
 ghost use Rattle.paper_messages.specs.Bytes.{complement};
-ghost use Rattle.paper_messages.specs.Fields.{places, sum_width};
-ghost use Rattle.paper_streams.specs.Streams.{no_stream, count_said, sum_said, end_fits_of, number_in, stream_after};
+ghost use Rattle.paper_messages.specs.Fields.{sum_width};
+ghost use Rattle.paper_streams.specs.Streams.{no_stream, known_kind, count_said, sum_said, end_fits_of};
+ghost use Rattle.paper_streams.specs.Streams.{number_in, stream_after};
 ghost use Rattle.paper_streams.specs.Alone.{stands_alone};
 
 use exact::{magnitude, unsigned};
-use paper_messages::{Message, ReaderAnswer};
+use paper::Verdict;
+use paper_messages::{Heard, Message};
 use paper_streams::Stream;
 use sums::sum_on;
 
@@ -30,7 +32,6 @@ fn sum_of(value: i64) -> u64
 
 // How many messages stand before it.
 pub fn count_said(m: Message) -> u64
-    requires { length m.fields ≡ places }
     ensures { result ≡ count_said m }
 {
     let fields = m.fields;
@@ -39,7 +40,6 @@ pub fn count_said(m: Message) -> u64
 
 // The sum of their bytes.
 pub fn sum_said(m: Message) -> u64
-    requires { length m.fields ≡ places }
     ensures { result ≡ sum_said m }
 {
     let fields = m.fields;
@@ -61,63 +61,62 @@ pub fn no_stream() -> Stream
 
 // Whether an `end` says what came of its stream.
 fn end_fits(s: Stream, m: Message) -> bool
-    requires { length m.fields ≡ places }
     ensures { result ≡ end_fits_of s m }
 {
     s.began & (count_said(m) == s.count) & (sum_said(m) == (s.sum as u64))
 }
 
 // The number that is answered: 21, 22 and 23 as of every message, and then 25.
-pub fn number_in(s: Stream, h: ReaderAnswer) -> u64
-    requires { length h.message.fields ≡ places }
-    ensures { result ≡ number_in s h }
+pub fn number_in(s: Stream, heard: Result<Heard, Verdict>) -> u64
+    ensures { result ≡ number_in s heard }
 {
-    let verdict = h.verdict;
-    let message = h.message;
-    let no = verdict.number();
-    if no != 0 {
-        return no;
+    match heard {
+        Err(verdict) => verdict.number(),
+        Ok(h) => match h.message {
+            Some(m) if m.kind == Message::END && !end_fits(s, m) => Stream::NOT_WHOLE,
+            _ => 0,
+        },
     }
-    if h.kind != Message::END {
-        return 0;
+}
+
+// The kind of the message that is heard: 0, which is no kind, of a refusal and of an unknown kind.
+pub fn known_kind(heard: Result<Heard, Verdict>) -> u64
+    ensures { result ≡ known_kind heard }
+{
+    match heard {
+        Ok(h) => h.message.map_or(0, |m| m.kind),
+        Err(_) => 0,
     }
-    if end_fits(s, message) {
-        return 0;
-    }
-    Stream::NOT_WHOLE
 }
 
 // How far the stream is heard behind a message of these bytes.
-pub fn stream_after(s: Stream, h: ReaderAnswer, bytes: &[u8]) -> Stream
+pub fn stream_after(s: Stream, heard: Result<Heard, Verdict>, bytes: &[u8]) -> Stream
     requires { s.count < past_every }
-    ensures { result ≡ stream_after s h bytes.now }
+    ensures { result ≡ stream_after s heard bytes.now }
 {
-    if h.kind == Message::BEGIN {
-        return Stream {
+    match known_kind(heard) {
+        Message::BEGIN => Stream {
             began: true,
             count: 1,
             sum: sum_on(0, bytes),
-        };
-    }
-    if h.kind == Message::END {
-        return no_stream();
-    }
-    if !s.began {
-        return s;
-    }
-    Stream {
-        began: true,
-        count: s.count + 1,
-        sum: sum_on(s.sum, bytes),
+        },
+        Message::END => no_stream(),
+        _ if s.began => Stream {
+            began: true,
+            count: s.count + 1,
+            sum: sum_on(s.sum, bytes),
+        },
+        _ => s,
     }
 }
 
 // Whether a message may stand at a place of an input that is one stream alone.
-pub fn stands_alone(place: u64, s: Stream, h: ReaderAnswer) -> bool
-    ensures { result ≡ stands_alone place s h }
+pub fn stands_alone(place: u64, s: Stream, heard: Result<Heard, Verdict>) -> bool
+    ensures { result ≡ stands_alone place s heard }
 {
-    if h.kind == Message::BEGIN {
-        return !s.began & (place == 0);
+    if known_kind(heard) == Message::BEGIN {
+        !s.began & (place == 0)
+    } else {
+        s.began
     }
-    s.began
 }

@@ -11,7 +11,7 @@ use borrow.Fn.Kinds.{ended_of}
 use denote.Triple.Clauses.{AtExit}
 use Rattle.paper.specs.declared.Verdict.TheVariants.{Done}
 use Rattle.paper_messages.specs.Bytes.{Bytes, no_byte, byte, in_byte}
-use Rattle.paper_messages.specs.Messages.{encode, valid}
+use Rattle.paper_messages.specs.Messages.{encode, valid, verdict_of, known_heard, message_heard, next_heard}
 use Rattle.paper_messages.proofs.MessageLaws.{heard_only}
 use Rattle.messages.proofs.read as read
 use Rattle.messages.specs.contracts.read as stated
@@ -26,11 +26,11 @@ each_is_byte (x ∷ b) h = byte (h 0) (each_is_byte b (λ i. h (suc i)))
 -- reading of the reader's own `ensures`, at the buffer and the place
 pub read_hears_only : (κs : Lfts 1) (a : ArgsD stated.signature κs) (r : ResD stated.signature κs)
     (e : AtExit (ended_of 1 read.Kinds.ps read.Kinds.r) κs)
-    → read.Reads.Post κs a r e → r.verdict ≡ Done → r.known ≡ true
-    → let m = r.message in
+    → read.Reads.Post κs a r e → verdict_of r ≡ Done → known_heard r ≡ true
+    → let m = message_heard r in
     (valid m ≡ true)
     × (encode m ≡ take (length (encode m)) (drop a.1.0 a.0.now))
-    × (r.next ≡ a.1.0 + length (encode m))
+    × (next_heard r ≡ a.1.0 + length (encode m))
 read_hears_only κs a r e p done known =
     rw p.answers
     (heard_only a.0.now a.1.0 p.bytes (rw p.answers at done) (rw p.answers at known))

@@ -18,18 +18,19 @@ use Rattle.paper.proofs.Logic.{pick_false}
 use Rattle.paper_messages.specs.Bytes.{spelled}
 use Rattle.paper_messages.specs.Fields.{places_of}
 use Rattle.paper_messages.specs.Messages.{length_width, kind_width, length_least, length_most, length_at, kind_at, length_of}
-use Rattle.paper_messages.specs.Messages.{is_known_kind, valid, values_at, message_at, no_message, read_checks, refused_heard}
+use Rattle.paper_messages.specs.Messages.{is_known_kind, valid, values_at, message_at, read_checks}
 use Rattle.paper_messages.specs.Messages.{accepted_heard, heard_at}
 use Rattle.paper_messages.proofs.FieldLaws.{kinds_hold}
 use Rattle.messages.specs.FieldRoom.{Room}
 use Rattle.messages.specs.Promises.{Whole}
+use Rattle.std.specs.Prelude.{Ok, Err, Some, None}
 
 module _ (b : List ℕ) (at : ℕ) where
   -- a refusal is heard where it is the first that applies
   heard_is_refused : (v : Verdict) → is_done v ≡ false → first_of (read_checks (drop at b)) ≡ v
-      → refused_heard v ≡ heard_at b at
+      → Err v ≡ heard_at b at
   unfolding heard_at
-  heard_is_refused v n e = rw e (sym (pick_false (is_done v) (accepted_heard at (drop at b)) (refused_heard v) n))
+  heard_is_refused v n e = rw e (sym (pick_false (is_done v) (accepted_heard at (drop at b)) (Err v) n))
 
   heard_is_accepted : first_of (read_checks (drop at b)) ≡ Done → accepted_heard at (drop at b) ≡ heard_at b at
   unfolding heard_at is_done
@@ -39,7 +40,7 @@ module _ (b : List ℕ) (at : ℕ) where
   left_is_difference : length (drop at b) ≡ length b - at
   left_is_difference = length-drop at b
 
-  pub no_length_is_cut_short : length b < at + length_width → refused_heard CutShort ≡ heard_at b at
+  pub no_length_is_cut_short : length b < at + length_width → Err CutShort ≡ heard_at b at
   unfolding read_checks first_of is_done
   no_length_is_cut_short h =
       let few : length (drop at b) < length_width = rw left_is_difference (omega arith) in
@@ -49,14 +50,14 @@ module _ (b : List ℕ) (at : ℕ) where
     four : length_width ≤ length (drop at b)
     four = rw left_is_difference (omega arith)
 
-    pub bad_length_is_wrong : within length_least length_most said ≡ false → refused_heard WrongLength ≡ heard_at b at
+    pub bad_length_is_wrong : within length_least length_most said ≡ false → Err WrongLength ≡ heard_at b at
     unfolding read_checks first_of is_done
     bad_length_is_wrong h =
         heard_is_refused WrongLength refl
         (rw (le-ltb (length (drop at b)) length_width four, ← told, h))
 
     pub cut_body_is_cut_short : within length_least length_most said ≡ true → length b < at + (length_width + said)
-        → refused_heard CutShort ≡ heard_at b at
+        → Err CutShort ≡ heard_at b at
     unfolding read_checks first_of is_done
     cut_body_is_cut_short w h =
         let few : length (drop at b) < length_width + said = rw left_is_difference (omega arith) in
@@ -94,20 +95,18 @@ module _ (b : List ℕ) (at : ℕ) where
           )
 
       pub skipped : is_known_kind kind ≡ false
-          → record {
-            verdict = Done;
-            known = false;
+          → Ok (record {
             kind = kind;
             length = said;
             next = at + (length_width + said);
-            message = no_message;
-          }
+            message = None;
+          })
           ≡ heard_at b at
       unfolding accepted_heard
       skipped k = sym (rw (← whole.told, ← kind_is, k)) ∙ heard_is_accepted (past_head ∙ rw k)
 
       module _ (k : is_known_kind kind ≡ true) where
-        pub other_length_is_wrong : (said ≡ length_of kind → ⊥) → refused_heard WrongLength ≡ heard_at b at
+        pub other_length_is_wrong : (said ≡ length_of kind → ⊥) → Err WrongLength ≡ heard_at b at
         unfolding is_done
         other_length_is_wrong n = heard_is_refused WrongLength refl (past_head ∙ rw (k, ne_eqb said (length_of kind) n))
 
@@ -118,21 +117,19 @@ module _ (b : List ℕ) (at : ℕ) where
           message_is = rw (← kind_is, drop-drop (length_width + kind_width) at b, ← read)
 
           pub out_of_range : valid (record { kind = kind; fields = values }) ≡ false
-              → refused_heard FieldOutOfRange ≡ heard_at b at
+              → Err FieldOutOfRange ≡ heard_at b at
           unfolding is_done
           out_of_range v =
               heard_is_refused FieldOutOfRange refl
               (past_head ∙ rw (k, eq-eqb said (length_of kind) right, message_is, v))
 
           pub heard : valid (record { kind = kind; fields = values }) ≡ true
-              → record {
-                verdict = Done;
-                known = true;
+              → Ok (record {
                 kind = kind;
                 length = said;
                 next = at + (length_width + said);
-                message = record { kind = kind; fields = values };
-              }
+                message = Some (record { kind = kind; fields = values });
+              })
               ≡ heard_at b at
           unfolding accepted_heard
           heard v =

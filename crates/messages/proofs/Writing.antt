@@ -8,7 +8,8 @@ use lib.Dec.{leb}
 use lib.ListN.{length, drop, length-append}
 use lib.Seq.{sets, sets-eq}
 use borrow.Author.Tests.{lt-ltb, le-ltb, leb-true}
-use Rattle.paper.specs.declared.Verdict.TheVariants.{Done, FieldOutOfRange, NoRoom}
+use Rattle.paper.specs.declared.Verdict.TheVariants.{FieldOutOfRange, NoRoom}
+use Rattle.std.specs.Prelude.{Ok, Err}
 use Rattle.paper.specs.Verdicts.{first_of, is_done}
 use Rattle.paper.proofs.Logic.{and_left, and_right}
 use Rattle.paper_messages.specs.declared.Field.{Field}
@@ -63,13 +64,13 @@ set_at_front b xs h =
     rw none at (sets-eq xs b 0 (omega arith))
 
 module _ (b : List ℕ) (m : Message) where
-  pub out_of_range : valid m ≡ false → Writes b m (record { verdict = FieldOutOfRange; length = 0 }) b
+  pub out_of_range : valid m ≡ false → Writes b m (Err FieldOutOfRange) b
   unfolding wrote_of written write_checks first_of is_done
   out_of_range v = record { answers = rw v; leaves = rw v }
 
   module _ (v : valid m ≡ true) where
     pub no_room : length b < length_width + length_of m.kind
-        → Writes b m (record { verdict = NoRoom; length = 0 }) b
+        → Writes b m (Err NoRoom) b
     unfolding wrote_of written write_checks first_of is_done
     no_room h =
         let small : length b < length (encode m) = rw (encode_length m v) h in
@@ -90,7 +91,7 @@ module _ (b : List ℕ) (m : Message) where
       pub wrote : (c₁ c₂ c₃ : List ℕ) → c₁ ≡ sets b 0 (bytes_of length_width (length_of m.kind))
           → c₂ ≡ sets c₁ length_width (bytes_of kind_width m.kind)
           → c₃ ≡ sets c₂ (length_width + kind_width) (body_of (places_of m.kind) m.fields)
-          → Writes b m (record { verdict = Done; length = length_width + length_of m.kind }) c₃
+          → Writes b m (Ok (length_width + length_of m.kind)) c₃
       unfolding wrote_of written write_checks first_of is_done
       wrote c₁ c₂ c₃ e₁ e₂ e₃ =
           let room : length (encode m) ≤ length b = rw (encode_length m v) h in

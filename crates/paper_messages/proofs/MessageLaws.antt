@@ -17,16 +17,17 @@ use Rattle.paper.specs.Verdicts.{first_of, is_done, NoneApplies, none, also, all
 use Rattle.paper.proofs.Logic.{and_left, and_right, and_right_false}
 use Rattle.paper_desk.proofs.Refusals.{done_is, done_means_none_applies}
 use Rattle.paper_messages.specs.declared.Message.{Message}
-use Rattle.paper_messages.specs.declared.ReaderAnswer.{ReaderAnswer}
 use Rattle.paper_messages.specs.Bytes.{Bytes, bytes_of, spelled}
 use Rattle.paper_messages.specs.Fields.{kinds_count, places, places_of}
 use Rattle.paper_messages.specs.Messages.{length_width, kind_width, body_of, total, length_of, encode, is_known_kind}
 use Rattle.paper_messages.specs.Messages.{in_ranges, valid, length_least, length_most, length_at, kind_at, message_at}
-use Rattle.paper_messages.specs.Messages.{values_at, read_checks, AcceptedBytes, accepted_heard, refused_heard}
+use Rattle.paper_messages.specs.Messages.{values_at, read_checks, AcceptedBytes, accepted_heard}
 use Rattle.paper_messages.specs.Messages.{heard_at}
 use Rattle.paper_messages.proofs.ByteLaws.{take_bytes, drop_bytes, bytes_length, bytes_back, bytes_only}
 use Rattle.paper_messages.proofs.FieldLaws.{body_length, in_ranges_has_values, body_back, body_only, kinds_hold}
 use Rattle.paper_messages.proofs.FieldLaws.{kinds_have_places, kinds_length_in_range}
+use Rattle.paper_messages.specs.Messages.{known_heard, message_heard, next_heard, verdict_of}
+use Rattle.std.specs.Prelude.{Ok, Err, Some, None, is_some}
 
 -- ---- what a valid message is
 
@@ -68,12 +69,12 @@ unfolding heard_at is_done
 heard_accepted b at e = rw e
 
 -- the number that is answered is the first that applies
-pub heard_verdict : (b : List ℕ) (at : ℕ) → (heard_at b at).verdict ≡ first_of (read_checks (drop at b))
-unfolding heard_at accepted_heard refused_heard
+pub heard_verdict : (b : List ℕ) (at : ℕ) → verdict_of (heard_at b at) ≡ first_of (read_checks (drop at b))
+unfolding heard_at accepted_heard
 heard_verdict b at = go (first_of (read_checks (drop at b))) (is_done (first_of (read_checks (drop at b)))) refl
   where
     go : (v : Verdict) (t : Bool) → is_done v ≡ t
-        → (pick t (accepted_heard at (drop at b)) (refused_heard v)).verdict ≡ v
+        → verdict_of (pick t (accepted_heard at (drop at b)) (Err v)) ≡ v
     go v true e = sym (done_is v e)
     go v false e = refl
 
@@ -158,41 +159,35 @@ module _ (m : Message) (v : valid m ≡ true) (full : length m.fields ≡ places
 
   accepted_is : (place : ℕ)
       → accepted_heard place (encode m ++ rest)
-      ≡ record {
-        verdict = Done;
-        known = true;
+      ≡ Ok (record {
         kind = m.kind;
         length = length_of m.kind;
         next = place + length (encode m);
-        message = m;
-      }
+        message = Some m;
+      })
   unfolding accepted_heard
   accepted_is place = rw (length_said, kind_said, valid_is_known m v, message_said, encode_length m v)
 
   -- it is heard at any place, whatever stands before it and behind it
   pub reads_back : (front : List ℕ)
       → heard_at (front ++ (encode m ++ rest)) (length front)
-      ≡ record {
-        verdict = Done;
-        known = true;
+      ≡ Ok (record {
         kind = m.kind;
         length = length_of m.kind;
         next = length front + length (encode m);
-        message = m;
-      }
+        message = Some m;
+      })
   reads_back front =
       heard_accepted (front ++ (encode m ++ rest)) (length front) none_first
       ∙ rw (drop-append_seam front (encode m ++ rest)) all
     where
       all : accepted_heard (length front) (encode m ++ rest)
-          ≡ record {
-            verdict = Done;
-            known = true;
+          ≡ Ok (record {
             kind = m.kind;
             length = length_of m.kind;
             next = length front + length (encode m);
-            message = m;
-          }
+            message = Some m;
+          })
       all = accepted_is (length front)
 
       none_first : first_of (read_checks (drop (length front) (front ++ (encode m ++ rest)))) ≡ Done
@@ -249,24 +244,30 @@ module _ (bytes : List ℕ) (all : Bytes bytes) (a : AcceptedBytes bytes) (k : i
       body_only (places_of (kind_at bytes)) last (drop_bytes (length_width + kind_width) bytes all) in-last in
       rw (e₁, e₂, e₃, n) (three_parts length_width kind_width (total (places_of (kind_at bytes))) bytes)
 
+-- there is a message where the kind is known
+pub some_picked : (known : Bool) (m : Message) → is_some (pick known (Some m) None) ≡ known
+some_picked true m = refl
+some_picked false m = refl
+
 -- of what the reader hears in a buffer of bytes: a message of a known kind is valid, and the bytes from the place on to
 -- the next are its encoding
-pub heard_only : (b : List ℕ) (at : ℕ) → Bytes b → (heard_at b at).verdict ≡ Done → (heard_at b at).known ≡ true
-    → let m = (heard_at b at).message in
-    (valid m ≡ true) × (encode m ≡ take (length (encode m)) (drop at b)) × ((heard_at b at).next ≡ at + length (encode m))
+pub heard_only : (b : List ℕ) (at : ℕ) → Bytes b → verdict_of (heard_at b at) ≡ Done → known_heard (heard_at b at) ≡ true
+    → let m = message_heard (heard_at b at) in
+    (valid m ≡ true) × (encode m ≡ take (length (encode m)) (drop at b)) × (next_heard (heard_at b at) ≡ at + length (encode m))
 unfolding accepted_heard
 heard_only b at all e known =
     let bytes : List ℕ = drop at b in
     let first : first_of (read_checks bytes) ≡ Done = sym (heard_verdict b at) ∙ e in
     let is : heard_at b at ≡ accepted_heard at bytes = heard_accepted b at first in
-    let k : is_known_kind (kind_at bytes) ≡ true = sym (ap (λ (h : ReaderAnswer). h.known) is) ∙ known in
+    let k : is_known_kind (kind_at bytes) ≡ true =
+    sym (ap known_heard is ∙ some_picked (is_known_kind (kind_at bytes)) (message_at bytes)) ∙ known in
     let a : AcceptedBytes bytes = done_means_accepted bytes first in
-    let m-is : (heard_at b at).message ≡ message_at bytes = ap (λ (h : ReaderAnswer). h.message) is ∙ said k in
+    let m-is : message_heard (heard_at b at) ≡ message_at bytes = ap message_heard is ∙ said k in
     let only : encode (message_at bytes) ≡ take (length_width + length_at bytes) bytes =
     only_encoding bytes (drop_bytes at b all) a k in
     let long : length (encode (message_at bytes)) ≡ length_width + length_at bytes =
     ap length only ∙ length-take-le (length_width + length_at bytes) bytes a.follows in
-    rw (m-is, long) (a.in_range_lem k, only, ap (λ (h : ReaderAnswer). h.next) is)
+    rw (m-is, long) (a.in_range_lem k, only, ap next_heard is)
   where
-    said : is_known_kind (kind_at (drop at b)) ≡ true → (accepted_heard at (drop at b)).message ≡ message_at (drop at b)
+    said : is_known_kind (kind_at (drop at b)) ≡ true → message_heard (accepted_heard at (drop at b)) ≡ message_at (drop at b)
     said k = rw k

@@ -17,14 +17,15 @@ use Rattle.paper.specs.Verdicts.{number_of, is_done, first_of}
 use Rattle.paper.proofs.Logic.{and_left, not_true_and_false}
 use Rattle.paper_desk.proofs.Refusals.{done_is}
 use Rattle.paper_messages.specs.declared.Field.{Field}
-use Rattle.paper_messages.specs.declared.ReaderAnswer.{ReaderAnswer}
 use Rattle.paper_messages.specs.Bytes.{spelled}
 use Rattle.paper_messages.specs.Fields.{places_of}
 use Rattle.paper_messages.specs.Messages.{length_width, kind_width, length_least, length_most, total, length_of}
-use Rattle.paper_messages.specs.Messages.{is_known_kind, valid, values_at, length_at, kind_at, message_at, no_message}
+use Rattle.paper_messages.specs.Messages.{is_known_kind, valid, values_at, length_at, kind_at, message_at}
 use Rattle.paper_messages.specs.Messages.{read_checks, accepted_heard, heard_at}
 use Rattle.paper_messages.specs.OwnBytes.{own_bytes, HeardAlike}
 use Rattle.paper_messages.proofs.MessageLaws.{heard_accepted, heard_verdict, done_means_accepted}
+use Rattle.std.specs.Prelude.{Ok, Some, None}
+use Rattle.paper_messages.specs.Messages.{Hearing, next_heard, verdict_of}
 
 -- ---- equal beginnings
 
@@ -163,21 +164,17 @@ module _ (s t : List ℕ) (i : within length_least length_most (length_at s) ≡
   said_same done place = rw (length_same, kind_same) (of (is_known_kind (kind_at s)) refl)
     where
       of : (k : Bool) → is_known_kind (kind_at s) ≡ k
-          → ◌≡◌ {A = ReaderAnswer} (record {
-            verdict = Done;
-            known = k;
+          → ◌≡◌ {A = Hearing} (Ok (record {
             kind = kind_at s;
             length = length_at s;
             next = place + (length_width + length_at s);
-            message = pick k (message_at t) no_message;
-          }) (record {
-            verdict = Done;
-            known = k;
+            message = pick k (Some (message_at t)) None;
+          })) (Ok (record {
             kind = kind_at s;
             length = length_at s;
             next = place + (length_width + length_at s);
-            message = pick k (message_at s) no_message;
-          })
+            message = pick k (Some (message_at s)) None;
+          }))
       of true e = rw (message_same ((done_means_accepted s done).right e))
       of false e = refl
 
@@ -207,21 +204,21 @@ own_same s t whole same = of (within length_least length_most (length_at s)) ref
     of false i e = unsaid_same s t i (has_length s whole) e
 
 -- where a message is accepted, a buffer that has the same bytes up to the next one is heard alike
-pub heard_same : (b c : List ℕ) (at : ℕ) → (heard_at b at).verdict ≡ Done
-    → take (heard_at b at).next b ≡ take (heard_at b at).next c
+pub heard_same : (b c : List ℕ) (at : ℕ) → verdict_of (heard_at b at) ≡ Done
+    → take (next_heard (heard_at b at)) b ≡ take (next_heard (heard_at b at)) c
     → heard_at c at ≡ heard_at b at
 unfolding accepted_heard own_bytes is_done
 heard_same b c at e same =
     let s : List ℕ = drop at b in
     let t : List ℕ = drop at c in
     let first : first_of (read_checks s) ≡ Done = sym (heard_verdict b at) ∙ e in
-    let next_is : (heard_at b at).next ≡ at + own_bytes s =
-    ap (λ (h : ReaderAnswer). h.next) (heard_accepted b at first)
+    let next_is : next_heard (heard_at b at) ≡ at + own_bytes s =
+    ap next_heard (heard_accepted b at first)
     ∙ next_of s (done_means_accepted s first).in_length in
     let alike = own_same s t (ap (λ (v : Verdict). eqb (number_of v) (number_of CutShort)) first)
     (rest_same at (own_bytes s) b c (rw next_is at same)) in
     heard_accepted c at (alike.0 ∙ first) ∙ alike.1 (ap is_done first) at ∙ sym (heard_accepted b at first)
   where
     next_of : (s : List ℕ) → within length_least length_most (length_at s) ≡ true
-        → (accepted_heard at s).next ≡ at + own_bytes s
+        → next_heard (accepted_heard at s) ≡ at + own_bytes s
     next_of s i = rw i

@@ -2,6 +2,7 @@
 -- fields at fixed widths". What a message's bytes are, when a message is valid, what the writer answers and leaves, and
 -- what the reader hears.
 use Rattle.std.specs.Prelude.{◌≡◌, Bool, true, false, not, ◌&&◌, List, [], ◌∷◌, ◌++◌, ℕ, ◌+◌, ◌≤◌, leb, ltb, eqb, ℤ, pos, length, take, drop, replicate}
+use Rattle.std.specs.Prelude.{Some, None, is_some, unwrap_or, Result, Ok, Err}
 use Rattle.paper.specs.declared.Verdict.{Verdict}
 use Rattle.paper.specs.declared.Verdict.TheVariants.{Done, CutShort, WrongLength, FieldOutOfRange, NoRoom}
 use Rattle.paper.specs.Lists.{pick}
@@ -10,10 +11,15 @@ use Rattle.paper.specs.Ranges.{within, within_z, unsigned_at, given_of, valid_gi
 use Rattle.paper.specs.Verdicts.{Check, first_of, is_done}
 use Rattle.paper_messages.specs.declared.Field.{Field}
 use Rattle.paper_messages.specs.declared.Message.{Message}
-use Rattle.paper_messages.specs.declared.WriterAnswer.{WriterAnswer}
-use Rattle.paper_messages.specs.declared.ReaderAnswer.{ReaderAnswer}
+use Rattle.paper_messages.specs.declared.Heard.{Heard}
 use Rattle.paper_messages.specs.Bytes.{width_most, fits_width, bytes_of, spelled, complement, signed_of}
 use Rattle.paper_messages.specs.Fields.{statics_message_kind, kinds_count, places, places_of}
+
+-- what the writer and the reader answer: what they did, or the number of their refusal. The number of what is not
+-- refused is 0
+abbrev pub verdict_of : {A : Type 0} → Result A Verdict → Verdict
+verdict_of (Ok x) = Done
+verdict_of (Err v) = v
 
 -- ---- the bytes of a message
 
@@ -82,10 +88,11 @@ write_checks buffer m =
     ∷ record { verdict = NoRoom; applies = ltb (length buffer) (length (encode m)) }
     ∷ []
 
-unfoldable pub wrote_of : (buffer : List ℕ) → Message → WriterAnswer
+-- how many bytes it wrote, or the number of a refusal
+unfoldable pub wrote_of : (buffer : List ℕ) → Message → Result ℕ Verdict
 wrote_of buffer m =
     let v : Verdict = first_of (write_checks buffer m) in
-    record { verdict = v; length = pick (is_done v) (length (encode m)) 0 }
+    pick (is_done v) (Ok (length (encode m))) (Err v)
 
 -- the buffer after it: the message and then what stood there; a refusal leaves it untouched
 unfoldable pub written : (buffer : List ℕ) → Message → List ℕ
@@ -145,25 +152,45 @@ pub record AcceptedBytes (bytes : List ℕ) : Type 0 where
 abbrev pub no_message : Message
 no_message = record { kind = 0; fields = replicate places (pos 0) }
 
-unfoldable pub refused_heard : Verdict → ReaderAnswer
-refused_heard v = record { verdict = v; known = false; kind = 0; length = 0; next = 0; message = no_message }
+-- what the reader answers at a place
+abbrev pub Hearing : Type 0
+Hearing = Result Heard Verdict
+
+-- the parts of what is heard; a refusal has zeros, and an unknown kind no message
+abbrev pub kind_heard : Hearing → ℕ
+kind_heard (Ok h) = h.kind
+kind_heard (Err v) = 0
+
+abbrev pub length_heard : Hearing → ℕ
+length_heard (Ok h) = h.length
+length_heard (Err v) = 0
+
+abbrev pub next_heard : Hearing → ℕ
+next_heard (Ok h) = h.next
+next_heard (Err v) = 0
+
+abbrev pub known_heard : Hearing → Bool
+known_heard (Ok h) = is_some h.message
+known_heard (Err v) = false
+
+abbrev pub message_heard : Hearing → Message
+message_heard (Ok h) = unwrap_or h.message no_message
+message_heard (Err v) = no_message
 
 -- a message that is not refused: "A reader meeting an unknown kind skips it by its length .. and says so", and the next
 -- one begins behind it
-unfoldable pub accepted_heard : (place : ℕ) → (bytes : List ℕ) → ReaderAnswer
+unfoldable pub accepted_heard : (place : ℕ) → (bytes : List ℕ) → Hearing
 accepted_heard place bytes =
-    record {
-      verdict = Done;
-      known = is_known_kind (kind_at bytes);
+    Ok (record {
       kind = kind_at bytes;
       length = length_at bytes;
       next = place + (length_width + length_at bytes);
-      message = pick (is_known_kind (kind_at bytes)) (message_at bytes) no_message;
-    }
+      message = pick (is_known_kind (kind_at bytes)) (Some (message_at bytes)) None;
+    })
 
 -- what the reader hears at a place of a lent buffer
-unfoldable pub heard_at : (buffer : List ℕ) → (place : ℕ) → ReaderAnswer
+unfoldable pub heard_at : (buffer : List ℕ) → (place : ℕ) → Hearing
 heard_at buffer place =
     let bytes : List ℕ = drop place buffer in
     let v : Verdict = first_of (read_checks bytes) in
-    pick (is_done v) (accepted_heard place bytes) (refused_heard v)
+    pick (is_done v) (accepted_heard place bytes) (Err v)

@@ -4,14 +4,15 @@ use Rattle.std.proofs.lemmas.List.Edits.{sets}
 use Rattle.paper.specs.Ranges.{unsigned, given_of, flag_of, valid_statics, statics_of, valid_given}
 use Rattle.paper.specs.Verdicts.{number_of, is_done, first_of}
 use Rattle.paper_messages.specs.declared.Message.{Message}
-use Rattle.paper_messages.specs.declared.ReaderAnswer.{ReaderAnswer}
 use Rattle.paper_messages.specs.Bytes.{bytes_of, spelled, complement, signed_of}
 use Rattle.paper_messages.specs.Fields.{statics_message_kind, rates_message_kind, bands_message_kind, move_message_kind}
 use Rattle.paper_messages.specs.Fields.{yes_no, fields_of, filled, places_of}
 use Rattle.paper_messages.specs.Messages.{body_of, total, length_of, encode, is_known_kind, in_ranges}
 use Rattle.paper_messages.specs.Messages.{as_admission, valid, write_checks, wrote_of, written, values_at, message_at}
-use Rattle.paper_messages.specs.Messages.{read_checks, refused_heard, accepted_heard, heard_at}
+use Rattle.paper_messages.specs.Messages.{read_checks, accepted_heard, heard_at}
 use Rattle.paper_messages.specs.Records.{message}
+use Rattle.paper_messages.specs.Messages.{Hearing, kind_heard, known_heard, length_heard, message_heard, next_heard, verdict_of}
+use Rattle.std.specs.Result.{result_unwrap_or}
 
 -- ---- a message of each kind
 
@@ -96,8 +97,8 @@ move_encoded = refl
 -- the number, and of what is heard whether its kind is known, the kind, the length and the place of the next
 unfoldable pub heard : List ℕ → (place : ℕ) → List ℕ
 heard buffer place =
-    let h : ReaderAnswer = heard_at buffer place in
-    number_of h.verdict ∷ flag_of h.known ∷ h.kind ∷ h.length ∷ h.next ∷ []
+    let h : Hearing = heard_at buffer place in
+    number_of (verdict_of h) ∷ flag_of (known_heard h) ∷ kind_heard h ∷ length_heard h ∷ next_heard h ∷ []
 
 -- a message of so many bytes behind its length, of a kind below 256, with zeros
 unfoldable pub zeros : (said kind count : ℕ) → List ℕ
@@ -131,7 +132,7 @@ pub lengths_are : lengths
     ∷ (22 ∷ 0 ∷ 0 ∷ 0 ∷ 0 ∷ [])
     ∷ (22 ∷ 0 ∷ 0 ∷ 0 ∷ 0 ∷ [])
     ∷ []
-unfolding lengths heard zeros heard_at accepted_heard refused_heard read_checks first_of is_done is_known_kind valid in_ranges
+unfolding lengths heard zeros heard_at accepted_heard read_checks first_of is_done is_known_kind valid in_ranges
     as_admission given_of valid_given valid_statics statics_of unsigned message_at values_at spelled signed_of length_of total
     places_of fields_of filled
 lengths_are = refl
@@ -169,14 +170,14 @@ pub kinds_are : kinds
     ∷ (21 ∷ 0 ∷ 0 ∷ 0 ∷ 0 ∷ [])
     ∷ (22 ∷ 0 ∷ 0 ∷ 0 ∷ 0 ∷ [])
     ∷ []
-unfolding kinds heard move_bytes zeros heard_at accepted_heard refused_heard read_checks first_of is_done is_known_kind valid
+unfolding kinds heard move_bytes zeros heard_at accepted_heard read_checks first_of is_done is_known_kind valid
     in_ranges as_admission given_of valid_given valid_statics statics_of unsigned message_at values_at spelled signed_of length_of
     total places_of fields_of filled
 kinds_are = refl
 
 -- a field out of range, and its last number in it
 unfoldable pub judged : List ℕ → ℕ
-judged buffer = number_of (heard_at buffer 0).verdict
+judged buffer = number_of (verdict_of (heard_at buffer 0))
 
 unfoldable pub fields : List ℕ
 fields =
@@ -220,7 +221,7 @@ fields =
 pub fields_are : fields
     ≡ 23 ∷ 0 ∷ 23 ∷ 0 ∷ 23 ∷ 0 ∷ 23 ∷ 23 ∷ 23 ∷ 23 ∷ 0 ∷ 23 ∷ 0 ∷ 23 ∷ 0 ∷ 23 ∷ 0 ∷ 23 ∷ 0 ∷ 23
     ∷ 23 ∷ 23 ∷ 23 ∷ 23 ∷ 0 ∷ 0 ∷ 23 ∷ 23 ∷ 23 ∷ 23 ∷ 23 ∷ 0 ∷ 23 ∷ 23 ∷ 23 ∷ []
-unfolding fields judged statics_bytes rates_bytes bands_bytes move_bytes zeros heard_at accepted_heard refused_heard read_checks
+unfolding fields judged statics_bytes rates_bytes bands_bytes move_bytes zeros heard_at accepted_heard read_checks
     first_of is_done is_known_kind valid in_ranges as_admission given_of valid_given valid_statics statics_of unsigned message_at
     values_at spelled signed_of length_of total places_of fields_of filled
 fields_are = refl
@@ -235,11 +236,11 @@ flags_are = refl
 
 -- ---- what is read is what was written
 
-pub heard_back : ((heard_at statics_bytes 0).message ≡ statics_told) × ((heard_at rates_bytes 0).message ≡ rates_told)
-    × ((heard_at bands_bytes 0).message ≡ bands_told)
-    × ((heard_at move_bytes 0).message ≡ move_told)
+pub heard_back : (message_heard (heard_at statics_bytes 0) ≡ statics_told) × (message_heard (heard_at rates_bytes 0) ≡ rates_told)
+    × (message_heard (heard_at bands_bytes 0) ≡ bands_told)
+    × (message_heard (heard_at move_bytes 0) ≡ move_told)
 unfolding statics_bytes rates_bytes bands_bytes move_bytes statics_told rates_told bands_told move_told message zeros heard_at
-    accepted_heard refused_heard read_checks first_of is_done is_known_kind valid in_ranges as_admission given_of valid_given
+    accepted_heard read_checks first_of is_done is_known_kind valid in_ranges as_admission given_of valid_given
     valid_statics statics_of unsigned message_at values_at spelled signed_of length_of total places_of fields_of filled
 heard_back = (refl, refl, refl, refl)
 
@@ -247,7 +248,7 @@ heard_back = (refl, refl, refl, refl)
 
 -- the number, and how many bytes it wrote
 unfoldable pub answered : List ℕ → Message → List ℕ
-answered buffer m = number_of (wrote_of buffer m).verdict ∷ (wrote_of buffer m).length ∷ []
+answered buffer m = number_of (verdict_of (wrote_of buffer m)) ∷ result_unwrap_or (wrote_of buffer m) 0 ∷ []
 
 -- a field of nobody's: a number past the last field
 unfoldable pub past_last : Message
@@ -264,7 +265,7 @@ writes =
 
 pub writes_are : writes ≡ (0 ∷ 66 ∷ []) ∷ (24 ∷ 0 ∷ []) ∷ (23 ∷ 0 ∷ []) ∷ (23 ∷ 0 ∷ []) ∷ (23 ∷ 0 ∷ []) ∷ []
 unfolding writes answered past_last move_told message wrote_of write_checks encode body_of bytes_of complement zeros heard_at
-    accepted_heard refused_heard read_checks first_of is_done is_known_kind valid in_ranges as_admission given_of valid_given
+    accepted_heard read_checks first_of is_done is_known_kind valid in_ranges as_admission given_of valid_given
     valid_statics statics_of unsigned message_at values_at spelled signed_of length_of total places_of fields_of filled
 writes_are = refl
 
@@ -273,6 +274,6 @@ pub written_are : (written (replicate 68 9) move_told ≡ move_bytes ++ 9 ∷ 9 
     × (written (replicate 65 9) move_told ≡ replicate 65 9)
     × (written (replicate 68 9) past_last ≡ replicate 68 9)
 unfolding written past_last move_told move_bytes message wrote_of write_checks encode body_of bytes_of complement zeros heard_at
-    accepted_heard refused_heard read_checks first_of is_done is_known_kind valid in_ranges as_admission given_of valid_given
+    accepted_heard read_checks first_of is_done is_known_kind valid in_ranges as_admission given_of valid_given
     valid_statics statics_of unsigned message_at values_at spelled signed_of length_of total places_of fields_of filled
 written_are = (refl, refl, refl)

@@ -1,8 +1,8 @@
-// What W-212 speaks of: a field, a message, what the writer answers and what the reader hears. specs/ defines what is
+// What W-212 speaks of: a field, a message, and what the reader hears. specs/ defines what is
 // right; proofs/ proves it. It may use `paper` and `paper_desk`.
 #![tactic(auto)]
 
-use paper::{Statics, Verdict};
+use paper::Statics;
 
 // A field of a message: how many bytes it has, and its range.
 #[derive(Clone, Copy)]
@@ -71,21 +71,12 @@ impl Message {
     pub const BYTES_MOST: usize = Message::LENGTH_WIDTH + Message::STATICS_LENGTH as usize;
 }
 
-// What the writer answers: the number, and how many bytes it wrote, 0 where it refused.
+// What the reader hears at a place: the kind, the length that the message gives, and the place behind it; and the message,
+// where its kind is known. One of an unknown kind is skipped.
 #[derive(Clone, Copy)]
-pub struct WriterAnswer {
-    pub verdict: Verdict,
-    pub length: usize,
-}
-
-// What the reader hears at a place: a message of a known kind, or one of an unknown kind, which it skips; either with
-// the kind, the length that the message gives, and the place behind it. A refusal has its verdict and zeros.
-#[derive(Clone, Copy)]
-pub struct ReaderAnswer {
-    pub verdict: Verdict,
-    pub known: bool,
+pub struct Heard {
     pub kind: u64,
     pub length: u64,
     pub next: usize,
-    pub message: Message,
+    pub message: Option<Message>,
 }

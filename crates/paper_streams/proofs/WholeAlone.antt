@@ -10,28 +10,29 @@ use borrow.Author.Tests.{eqb-true, eq-eqb, ne_eqb, lt-leb, leb-false, leb-true, 
 use Rattle.paper.specs.Lists.{pick}
 use Rattle.paper.specs.Verdicts.{is_done, first_of}
 use Rattle.paper.proofs.Logic.{not_true_and_false}
-use Rattle.paper_messages.specs.declared.ReaderAnswer.{ReaderAnswer}
 use Rattle.paper_messages.specs.Fields.{end_message_kind}
-use Rattle.paper_messages.specs.Messages.{read_checks, refused_heard, heard_at}
+use Rattle.paper_messages.specs.Messages.{read_checks, heard_at}
 use Rattle.paper_streams.specs.declared.Stream.{Stream}
 use Rattle.paper_streams.specs.Streams.{no_stream, is_begin, is_end, end_fits_of, number_in, stream_after, bytes_at}
 use Rattle.paper_streams.specs.Streams.{may_stand}
 use Rattle.paper_streams.specs.Streams.{is_whole_from, is_whole}
 use Rattle.paper_streams.specs.Alone.{stands_alone, ends_alone, alone_from}
 use Rattle.paper_streams.proofs.WholeOnly.{number_none, further, next_in}
+use Rattle.paper_messages.specs.Messages.{Hearing, next_heard}
+use Rattle.paper_streams.specs.Streams.{known_kind}
 
 -- a `begin` is no `end`
-begin_no_end : (h : ReaderAnswer) → is_end h ≡ true → is_begin h ≡ false
-begin_no_end h ends = rw (eqb-true h.kind end_message_kind ends) refl
+begin_no_end : (h : Hearing) → is_end h ≡ true → is_begin h ≡ false
+begin_no_end h ends = rw (eqb-true (known_kind h) end_message_kind ends) refl
 
 -- at the end of the input a message is cut short
 none_at_end : (input : List ℕ) (place : ℕ) (s : Stream) → length input ≤ place
     → eqb (number_in s (heard_at input place)) 0 ≡ false
-unfolding heard_at refused_heard read_checks first_of is_done number_in
+unfolding heard_at read_checks first_of is_done number_in
 none_at_end input place s h = rw (drop_of_length-le input h) refl
 
 -- where no stream is heard, nothing may stand at a place that is not the first
-none_behind : (place : ℕ) (s : Stream) (h : ReaderAnswer) → s.began ≡ false → 0 < place → stands_alone place s h ≡ false
+none_behind : (place : ℕ) (s : Stream) (h : Hearing) → s.began ≡ false → 0 < place → stands_alone place s h ≡ false
 unfolding stands_alone
 none_behind place s h over some = go (is_begin h)
   where
@@ -45,7 +46,7 @@ stops false b = refl
 
 module _ (input : List ℕ) where
   abbrev next : ℕ → ℕ
-  next place = (heard_at input place).next
+  next place = next_heard (heard_at input place)
 
   abbrev after : ℕ → Stream → Stream
   after place s = stream_after s (heard_at input place) (bytes_at input place (heard_at input place))

@@ -9,7 +9,7 @@ use Rattle.paper_messages.specs.Broadcast.{sent, all_sent}
 use Rattle.paper_messages.specs.Bytes.{bytes_of, spelled, complement, signed_of}
 use Rattle.paper_messages.specs.Fields.{reasons_message_kind, session_message_kind, fields_of, filled, places_of}
 use Rattle.paper_messages.specs.Messages.{body_of, total, length_of, encode, is_known_kind, in_ranges, valid}
-use Rattle.paper_messages.specs.Messages.{values_at, message_at, read_checks, refused_heard, accepted_heard, heard_at}
+use Rattle.paper_messages.specs.Messages.{values_at, message_at, read_checks, accepted_heard, heard_at}
 use Rattle.paper_messages.specs.Records.{value_of, message}
 use Rattle.paper_streams.specs.Streams.{begin_message, end_message, begun, ended, whole_stream, no_stream, end_fits_of}
 use Rattle.paper_streams.specs.Streams.{number_in, stream_after, may_stand, is_whole_from, is_whole}
@@ -56,7 +56,7 @@ streams_are = (refl, refl)
 -- ---- what is heard as one whole stream
 
 unfoldable pub heard_whole : List ℕ → Bool
-unfolding is_whole is_whole_from number_in end_fits_of may_stand stream_after heard_at accepted_heard refused_heard read_checks first_of is_done
+unfolding is_whole is_whole_from number_in end_fits_of may_stand stream_after heard_at accepted_heard read_checks first_of is_done
     is_known_kind valid in_ranges message_at values_at spelled signed_of complement length_of total places_of fields_of filled
     unsigned sum_of sum_on after_bytes after_bits bits_of divided
 heard_whole input = is_whole input
@@ -93,7 +93,7 @@ whole_are = (refl, refl, refl, refl)
 
 -- of a stream that has come so far, what is answered of the `end` of a whole one; 21, 22 and 23 come before 25
 unfoldable pub end_judged : Stream → List ℕ → ℕ
-unfolding number_in end_fits_of heard_at accepted_heard refused_heard read_checks first_of is_done is_known_kind valid in_ranges
+unfolding number_in end_fits_of heard_at accepted_heard read_checks first_of is_done is_known_kind valid in_ranges
     message_at values_at spelled signed_of complement length_of total places_of fields_of filled unsigned
 end_judged s bytes = number_in s (heard_at bytes 0)
 

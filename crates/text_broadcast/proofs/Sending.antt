@@ -13,7 +13,9 @@ use Rattle.paper.specs.Lists.{pick}
 use Rattle.paper.specs.Verdicts.{is_done, first_of}
 use Rattle.paper_reasons.specs.declared.Reasons.{Reasons}
 use Rattle.paper_messages.specs.declared.Message.{Message}
-use Rattle.paper_messages.specs.declared.WriterAnswer.{WriterAnswer}
+use Rattle.std.specs.Prelude.{Result}
+use Rattle.std.specs.Result.{result_unwrap_or}
+use Rattle.paper.specs.declared.Verdict.{Verdict}
 use Rattle.paper_messages.specs.Messages.{encode, valid, write_checks, wrote_of, written}
 use Rattle.paper_messages.proofs.FieldLaws.{kinds_within_most}
 use Rattle.paper_messages.proofs.MessageLaws.{encode_length}
@@ -24,22 +26,22 @@ use Rattle.paper_messages.specs.Broadcast.{message_most, sent}
 use Rattle.text_broadcast.specs.Sent.{messages_shown, shown_to, count_of, count_shown}
 
 -- THE WRITER LEAVES, at the start of a buffer that has room for every message, what is sent of the message
-pub starts_with_sent : (b : List ℕ) (m : Message) (w : WriterAnswer) (after : List ℕ) → length b ≡ message_most
-    → Writes b m w after → (w.length ≤ message_most) × (take w.length after ≡ sent m)
+pub starts_with_sent : (b : List ℕ) (m : Message) (w : Result ℕ Verdict) (after : List ℕ) (n : ℕ)
+    → n ≡ result_unwrap_or w 0 → length b ≡ message_most → Writes b m w after → (n ≤ message_most) × (take n after ≡ sent m)
 unfolding sent wrote_of written write_checks first_of is_done
-starts_with_sent b m w after long writes = go (valid m) refl
+starts_with_sent b m w after n is long writes = go (valid m) refl
   where
-    go : (x : Bool) → valid m ≡ x → (w.length ≤ message_most) × (take w.length after ≡ sent m)
+    go : (x : Bool) → valid m ≡ x → (n ≤ message_most) × (take n after ≡ sent m)
     -- a message with a field out of its range is not written
     go false e =
-        let none : w.length ≡ 0 = ap (λ (x : WriterAnswer). x.length) writes.answers ∙ rw e in
+        let none : n ≡ 0 = is ∙ ap (λ (x : Result ℕ Verdict). result_unwrap_or x 0) writes.answers ∙ rw e in
         rw none (omega arith, rw e)
     -- every other message is, since there is room for it
     go true e =
         let short : length (encode m) ≤ message_most = rw (encode_length m e) (kinds_within_most m.kind) in
         let room-left : ltb (length b) (length (encode m)) ≡ false = le-ltb (length b) (length (encode m)) (omega arith) in
-        let size : w.length ≡ length (encode m) =
-        ap (λ (x : WriterAnswer). x.length) writes.answers ∙ rw (e, room-left) in
+        let size : n ≡ length (encode m) =
+        is ∙ ap (λ (x : Result ℕ Verdict). result_unwrap_or x 0) writes.answers ∙ rw (e, room-left) in
         let left : after ≡ encode m ++ drop (length (encode m)) b = writes.leaves ∙ rw (e, room-left) in
         rw (size, left, e) (short, take_at (encode m) (drop (length (encode m)) b) (length (encode m)) refl)
 

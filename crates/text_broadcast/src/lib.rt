@@ -32,8 +32,8 @@ pub fn send(out: &mut Text, m: Message)
     ensures most { length out.new ≤ length out.old + message_most }
 {
     let mut message = [0; Message::BYTES_MOST];
-    let w = write(&mut message, m);
-    out.put_bytes(&message[..w.length]);
+    let length = write(&mut message, m).unwrap_or(0);
+    out.put_bytes(&message[..length]);
 }
 
 // What a call of a role sends where it is accepted: kind 1 of an admission, 2, 3 and 5 of an evaluation, 4 of a move, 8

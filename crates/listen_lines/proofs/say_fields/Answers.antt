@@ -8,7 +8,7 @@ use Rattle.listen_lines.proofs.say_fields.Goals as goal
 
 pub slice_bounds-put_numbers-end : goal.slice_bounds-put_numbers-end
 slice_bounds-put_numbers-end c =
-    sym (length-take-le _ _ (omega (arith, c.requires.1, c.field_count-count.ensures.1)))
+    sym (length-take-le _ _ (omega (arith, c.field_count-count.ensures.1)))
 
 pub put_numbers-n-requires : goal.put_numbers-n-requires
 put_numbers-n-requires c = (
@@ -16,7 +16,7 @@ put_numbers-n-requires c = (
   omega (
     arith,
     length-take-le c.field_count-count.result c.args.m.fields
-        (omega (arith, c.requires.1, c.field_count-count.ensures.1)),
+        (omega (arith, c.field_count-count.ensures.1)),
     c.field_count-count.ensures.1,
   ),
 )

@@ -17,14 +17,13 @@ slice_bounds-read-end-2 c =
 pub hear-requires : goal.hear-requires
 hear-requires c = (
   is_going _ _ c.requires.0 c.requires.1,
-  search rules,
   within _ c.args.s c.args.out.now c.requires.0 c.requires.1 _
-      c.read-h.ensures.answers _ c.is_cut.ensures,
+      c.read-heard.ensures.answers _ c.is_cut.ensures,
 )
 
 pub returns-then-not-is_cut : goal.returns-then-not-is_cut
 returns-then-not-is_cut c =
-    steps_whole _ c.args.s _ c.requires.0 c.requires.1 _ c.read-h.ensures.answers _
+    steps_whole _ c.args.s _ c.requires.0 c.requires.1 _ c.read-heard.ensures.answers _
     c.is_cut.ensures _ _ (ap not c.if-not-is_cut.true) c.hear.ensures
 
 pub read_on-requires : goal.read_on-requires
@@ -32,13 +31,13 @@ read_on-requires c = (
   c.requires.0,
   c.requires.1,
   steps_room _ c.args.s c.args.out.now c.requires.0 c.requires.1 _
-      c.read-h.ensures.answers _ c.is_cut.ensures (ap not c.if-not-is_cut.false),
+      c.read-heard.ensures.answers _ c.is_cut.ensures (ap not c.if-not-is_cut.false),
   search rules,
 )
 
 pub returns-then-not-has_ended : goal.returns-then-not-has_ended
 returns-then-not-has_ended c =
-    steps_on _ c.args.s _ c.requires.0 c.requires.1 _ c.read-h.ensures.answers _
+    steps_on _ c.args.s _ c.requires.0 c.requires.1 _ c.read-heard.ensures.answers _
     c.is_cut.ensures _ _ (ap not c.if-not-is_cut.false)
     (sym c.has_ended.ensures ∙ not_true _ (ap not c.if-not-has_ended.true)) c.read_on.ensures
 
@@ -51,20 +50,19 @@ end_of_input-requires c = (
 
 pub returns-then-at-len : goal.returns-then-at-len
 returns-then-at-len c =
-    steps_end _ c.args.s _ c.requires.0 c.requires.1 _ c.read-h.ensures.answers _
+    steps_end _ c.args.s _ c.requires.0 c.requires.1 _ c.read-heard.ensures.answers _
     c.is_cut.ensures _ _ (sym c.has_ended.ensures ∙ not_false _ (ap not c.if-not-has_ended.false))
     c.if-at-len.true c.end_of_input.ensures
 
 pub hear-requires-2 : goal.hear-requires-2
 hear-requires-2 c = (
   is_going _ _ c.requires.0 c.requires.1,
-  search rules,
   within _ c.args.s c.args.out.now c.requires.0 c.requires.1 _
-      c.read-h.ensures.answers _ c.is_cut.ensures,
+      c.read-heard.ensures.answers _ c.is_cut.ensures,
 )
 
 pub returns : goal.returns
 returns c =
-    steps_cut _ c.args.s _ c.requires.0 c.requires.1 _ c.read-h.ensures.answers _
+    steps_cut _ c.args.s _ c.requires.0 c.requires.1 _ c.read-heard.ensures.answers _
     c.is_cut.ensures _ _ (sym c.has_ended.ensures ∙ not_false _ (ap not c.if-not-has_ended.false))
     c.if-at-len.false c.hear-2.ensures

@@ -1,6 +1,5 @@
 -- `read` meets its contract: the checks of the length, in their order; and what is lent are bytes, as a `&[u8]` says of
 -- itself where it comes in.
-use mathlib.Core.Path.{◌∙◌}
 use native.Mathlib.Omega.{arith}
 use borrow.Author.Tests.{le-leb, lt-leb}
 use Rattle.paper_messages.specs.Bytes.{Bytes}
@@ -18,22 +17,21 @@ lent c = each_is_byte c.before.args.buf.now (λ i. (c.shared_slice_known-1.given
 pub returns-then-buf-lt-LENGTH_WIDTH : goal.returns-then-buf-lt-LENGTH_WIDTH
 returns-then-buf-lt-LENGTH_WIDTH c =
     record {
-      answers = c.refused.ensures ∙ no_length_is_cut_short _ _ (omega arith);
+      answers = no_length_is_cut_short _ _ (omega arith);
       bytes = lent (goal.at.returns-then-buf-lt-LENGTH_WIDTH c).After-shared_slice_known-1;
     }
 
 pub returns-then-buf-at : goal.returns-then-buf-at
 returns-then-buf-at c =
     record {
-      answers = c.refused-then-buf-at.ensures ∙ no_length_is_cut_short _ _ (omega arith);
+      answers = no_length_is_cut_short _ _ (omega arith);
       bytes = lent (goal.at.returns-then-buf-at c).After-shared_slice_known-1;
     }
 
 pub returns-then-length-lt-LENGTH_LEAST : goal.returns-then-length-lt-LENGTH_LEAST
 returns-then-length-lt-LENGTH_LEAST c =
     record {
-      answers = c.refused-then-length-lt-LENGTH_LEAST.ensures
-          ∙ bad_length_is_wrong _ _ _ c.get_number-length.ensures.0 (omega arith)
+      answers = bad_length_is_wrong _ _ _ c.get_number-length.ensures.0 (omega arith)
           (rw (lt-leb length_least _ c.if-length-lt-LENGTH_LEAST.true));
       bytes = lent (goal.at.returns-then-length-lt-LENGTH_LEAST c).After-shared_slice_known-1;
     }
@@ -41,8 +39,7 @@ returns-then-length-lt-LENGTH_LEAST c =
 pub returns-then-length-gt-LENGTH_MOST : goal.returns-then-length-gt-LENGTH_MOST
 returns-then-length-gt-LENGTH_MOST c =
     record {
-      answers = c.refused-then-length-gt-LENGTH_MOST.ensures
-          ∙ bad_length_is_wrong _ _ _ c.get_number-length.ensures.0 (omega arith)
+      answers = bad_length_is_wrong _ _ _ c.get_number-length.ensures.0 (omega arith)
           (rw (le-leb length_least _ c.if-length-lt-LENGTH_LEAST.false, lt-leb _ length_most c.if-length-gt-LENGTH_MOST.true));
       bytes = lent (goal.at.returns-then-length-gt-LENGTH_MOST c).After-shared_slice_known-1;
     }
@@ -50,8 +47,7 @@ returns-then-length-gt-LENGTH_MOST c =
 pub returns-then-buf-at-2 : goal.returns-then-buf-at-2
 returns-then-buf-at-2 c =
     record {
-      answers = c.refused-then-buf-at-2.ensures
-          ∙ cut_body_is_cut_short _ _ _ c.get_number-length.ensures.0 (omega arith)
+      answers = cut_body_is_cut_short _ _ _ c.get_number-length.ensures.0 (omega arith)
           (rw (
             le-leb length_least _ c.if-length-lt-LENGTH_LEAST.false,
             le-leb _ length_most c.if-length-gt-LENGTH_MOST.false,

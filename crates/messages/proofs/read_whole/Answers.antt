@@ -34,13 +34,12 @@ values c = rw c.before.places_of.ensures at c.get_fields-fields.ensures
 pub returns-then-not-is_known_kind : goal.returns-then-not-is_known_kind
 returns-then-not-is_known_kind c =
     let k = sym c.is_known_kind.ensures ∙ not-true _ (ap not c.if-not-is_known_kind.true) in
-    rw c.no_message.ensures (skipped _ _ _ _ c.requires c.get_number-kind.ensures.0 k)
+    skipped _ _ _ _ c.requires c.get_number-kind.ensures.0 k
 
 pub returns-then-length-length_of : goal.returns-then-length-length_of
 returns-then-length-length_of c =
     let n = c.length_of.ensures in
-    c.refused.ensures
-    ∙ other_length_is_wrong _ _ _ _ c.requires c.get_number-kind.ensures.0 (known (goal.at.returns-then-length-length_of c).Else-not-is_known_kind)
+    other_length_is_wrong _ _ _ _ c.requires c.get_number-kind.ensures.0 (known (goal.at.returns-then-length-length_of c).Else-not-is_known_kind)
     (λ e. c.if-length-length_of.true (e ∙ sym n))
 
 pub get_fields-fields-requires : goal.get_fields-fields-requires
@@ -50,8 +49,7 @@ get_fields-fields-requires c =
 pub returns-then-not-is_valid : goal.returns-then-not-is_valid
 returns-then-not-is_valid c =
     let v = sym c.is_valid.ensures ∙ not-true _ (ap not c.if-not-is_valid.true) in
-    c.refused-then-not-is_valid.ensures
-    ∙ out_of_range _ _ _ _ c.requires c.get_number-kind.ensures.0 (known (goal.at.returns-then-not-is_valid c).Else-not-is_known_kind) (right (goal.at.returns-then-not-is_valid c).Else-length-length_of) _
+    out_of_range _ _ _ _ c.requires c.get_number-kind.ensures.0 (known (goal.at.returns-then-not-is_valid c).Else-not-is_known_kind) (right (goal.at.returns-then-not-is_valid c).Else-length-length_of) _
     (values (goal.at.returns-then-not-is_valid c).After-get_fields-fields) v
 
 pub returns : goal.returns

@@ -25,23 +25,23 @@ enough c = omega (arith, c.before.length_of-length.ensures)
 
 -- after the first store, and after the second
 first : (c : After-put_number)
-    → let s = c.before.before.before.before.before.before.before.before in
+    → let s = c.before.before.before.before.before.before.before in
     c.put_number.new.buf ≡ sets s.args.buf.now 0 (bytes_of length_width (length_of s.args.m.kind))
 first c = rw c.before.before.before.length_of-length.ensures at c.put_number.ensures
 
 first_length : (c : After-put_number)
-    → let s = c.before.before.before.before.before.before.before.before in
+    → let s = c.before.before.before.before.before.before.before in
     length c.put_number.new.buf ≡ length s.args.buf.now
 first_length c = ap length (first c) ∙ simp length-sets
 
 second : (c : After-put_number-2)
-    → let s = c.before.before.before.before.before.before.before.before.before.before.before.before in
+    → let s = c.before.before.before.before.before.before.before.before.before.before.before in
     c.put_number-2.new.buf
     ≡ sets c.before.before.before.before.put_number.new.buf length_width (bytes_of kind_width s.args.m.kind)
 second c = c.put_number-2.ensures
 
 second_length : (c : After-put_number-2)
-    → let s = c.before.before.before.before.before.before.before.before.before.before.before.before in
+    → let s = c.before.before.before.before.before.before.before.before.before.before.before in
     length c.put_number-2.new.buf ≡ length s.args.buf.now
 second_length c = ap length (second c) ∙ simp length-sets (first_length c.before.before.before.before)
 
