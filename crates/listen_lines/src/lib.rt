@@ -32,10 +32,7 @@ fn put_kind(out: &mut [u8; ROOM], len: usize, kind: u64) -> usize
     requires { len + word_bytes ≤ room }
     ensures { Wrote out.old len out.new result (kind_word kind) word_bytes }
 {
-    let word = word_of(kind);
-    let letters = word.letters;
-    let count = word.count;
-    put_bytes(out, len, &letters[..count])
+    put_bytes(out, len, word_of(kind))
 }
 
 // The word of a kind and the fields of a message.

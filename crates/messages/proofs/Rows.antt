@@ -2,12 +2,11 @@
 -- letters hold.
 use mathlib.Core.Path.{◌≡◌, refl}
 use mathlib.Core.Bool.{Bool, true}
-use mathlib.Core.List.{List, [], ◌∷◌, ◌++◌}
-use Prim.Native.Nat.{ℕ, zero, suc, ◌-◌, ◌≤◌, ◌<◌}
+use mathlib.Core.List.{List, [], ◌∷◌}
+use Prim.Native.Nat.{ℕ, zero, suc, ◌≤◌, ◌<◌}
 use native.Mathlib.Omega.{arith}
 use lib.Dec.{leb}
-use lib.ListN.{length, take, get_or, replicate, length-append, length-replicate}
-use lib.Seq.{take_at}
+use lib.ListN.{length, get_or}
 use borrow.Author.Tests.{leb-true}
 use Rattle.paper.specs.Lists.{every}
 use Rattle.paper.proofs.Logic.{and_left, and_right}
@@ -40,14 +39,3 @@ count_within_places kind = leb-true _ _ (of_every_row (λ k. leb (length k.field
 pub word_within_most : (kind : ℕ) → length (kind_row kind).word ≤ word_most
 unfolding every
 word_within_most kind = leb-true _ _ (of_every_row (λ k. leb (length k.word) word_most) refl kind)
-
-pub word_in_letters : (kind : ℕ) → let word = (kind_row kind).word in
-    take (length word) (word ++ replicate (word_most - length word) 0) ≡ word
-word_in_letters kind = let word = (kind_row kind).word in take_at word _ (length word) refl
-
-pub letters_are_most : (kind : ℕ) → let word = (kind_row kind).word in
-    length (word ++ replicate (word_most - length word) 0) ≡ word_most
-letters_are_most kind =
-    let word = (kind_row kind).word in
-    let fits = word_within_most kind in
-    rw (length-append word (replicate (word_most - length word) 0), length-replicate) (omega (arith, fits))

@@ -1,9 +1,9 @@
 // W-212: the fields of each kind of message, and whether a message is valid.
-ghost use Rattle.std.specs.Prelude.{◌≡◌, ◌≤◌, length, take};
+ghost use Rattle.std.specs.Prelude.{◌≡◌, ◌≤◌, length};
 ghost use Rattle.paper.specs.Ranges.{within_z};
-ghost use Rattle.paper_messages.specs.Fields.{kind_row, fields_of, kind_word, places, places_of};
+ghost use Rattle.paper_messages.specs.Fields.{fields_of, kind_word, places, places_of};
 ghost use Rattle.paper_messages.specs.Messages.{length_of, is_known_kind, in_ranges, as_admission, valid};
-ghost use Rattle.messages.specs.KindRows.{row_in, word_most};
+ghost use Rattle.messages.specs.KindRows.{word_most};
 
 use inputs::{given_of, number_at, valid_given, valid_id};
 use paper::{Limit, Price, Rate, Record, Statics, Tentative, Term};
@@ -120,43 +120,26 @@ const SUM: Field = Field {
 
 // ---- kinds
 
-// The letters of a word at most.
-const WORD_MOST: usize = 11;
-
-// The word of a kind: its letters, of which so many count.
-#[derive(Clone, Copy)]
-pub struct Word {
-    pub count: usize,
-    pub letters: [u8; WORD_MOST],
-}
-
-// A kind's row: the length that its messages give, of the kind and the fields; how many fields it has, and a field at
-// every place; and its word.
+// A kind's row: the length that its messages give, of the kind and the fields; its fields, in their order; and its word.
 #[derive(Clone, Copy)]
 struct MessageKind {
     length: u64,
-    count: usize,
-    places: [Field; Message::PLACES],
-    word: Word,
+    fields: &'static [Field],
+    word: &'static [u8],
 }
 
 // Of an unknown kind we know that its length counts the kind.
 const UNKNOWN: MessageKind = MessageKind {
     length: Message::LENGTH_LEAST,
-    count: 0,
-    places: [NONE; Message::PLACES],
-    word: Word {
-        count: 0,
-        letters: [0; WORD_MOST],
-    },
+    fields: &[],
+    word: b"",
 };
 
 // ID LOT H Q A_UP A_DOWN WAIT RH1 RH2 RH3 LIQ MIN1 MIN2 MIN3 SMAX XPR SHIFT PCHMAX PCLMAX W U MONITORING ISEWMA
 // UEVENING AUTOCHANGE EVENINGMAX USEEXTERNAL
 const STATICS: MessageKind = MessageKind {
     length: Message::STATICS_LENGTH,
-    count: Message::PLACES,
-    places: [
+    fields: &[
         ID,
         Field {
             width: NUMBER_WIDTH,
@@ -225,17 +208,13 @@ const STATICS: MessageKind = MessageKind {
         },
         YES_NO,
     ],
-    word: Word {
-        count: 7,
-        letters: [b's', b't', b'a', b't', b'i', b'c', b's', 0, 0, 0, 0],
-    },
+    word: b"statics",
 };
 
 // ID DAY P S TENTATIVE AGE S1 S2 S3 UPPER1 UPPER2 UPPER3 LOWER1 LOWER2 LOWER3
 const RATES: MessageKind = MessageKind {
     length: 94,
-    count: 15,
-    places: [
+    fields: &[
         ID,
         DAY,
         Field {
@@ -267,45 +246,24 @@ const RATES: MessageKind = MessageKind {
         LIMIT,
         LIMIT,
         LIMIT,
-        NONE,
-        NONE,
-        NONE,
-        NONE,
-        NONE,
-        NONE,
-        NONE,
-        NONE,
-        NONE,
-        NONE,
-        NONE,
-        NONE,
     ],
-    word: Word {
-        count: 5,
-        letters: [b'r', b'a', b't', b'e', b's', 0, 0, 0, 0, 0, 0],
-    },
+    word: b"rates",
 };
 
 // ID DAY, then for each of the three terms K RRCL RRCH LOWER UPPER
 const BANDS: MessageKind = MessageKind {
     length: 94,
-    count: 17,
-    places: [
+    fields: &[
         ID, DAY, TERM_DAYS, REPO, REPO, LIMIT, LIMIT, TERM_DAYS, REPO, REPO, LIMIT, LIMIT,
-        TERM_DAYS, REPO, REPO, LIMIT, LIMIT, NONE, NONE, NONE, NONE, NONE, NONE, NONE, NONE, NONE,
-        NONE,
+        TERM_DAYS, REPO, REPO, LIMIT, LIMIT,
     ],
-    word: Word {
-        count: 5,
-        letters: [b'b', b'a', b'n', b'd', b's', 0, 0, 0, 0, 0, 0],
-    },
+    word: b"bands",
 };
 
 // ID SIDE COUNT, then the side's three range limits and its three band limits
 const MOVE: MessageKind = MessageKind {
     length: 62,
-    count: 9,
-    places: [
+    fields: &[
         ID,
         Field {
             width: NUMBER_WIDTH,
@@ -323,36 +281,14 @@ const MOVE: MessageKind = MessageKind {
         LIMIT,
         LIMIT,
         LIMIT,
-        NONE,
-        NONE,
-        NONE,
-        NONE,
-        NONE,
-        NONE,
-        NONE,
-        NONE,
-        NONE,
-        NONE,
-        NONE,
-        NONE,
-        NONE,
-        NONE,
-        NONE,
-        NONE,
-        NONE,
-        NONE,
     ],
-    word: Word {
-        count: 4,
-        letters: [b'm', b'o', b'v', b'e', 0, 0, 0, 0, 0, 0, 0],
-    },
+    word: b"move",
 };
 
 // ID DAY PRICE WEIGHT REPLACEMENT TENTATIVE LEVEL1 LEVEL2 LEVEL3
 const REASONS: MessageKind = MessageKind {
     length: 17,
-    count: 9,
-    places: [
+    fields: &[
         ID,
         DAY,
         FOUR_REASONS,
@@ -362,164 +298,84 @@ const REASONS: MessageKind = MessageKind {
         THREE_REASONS,
         THREE_REASONS,
         THREE_REASONS,
-        NONE,
-        NONE,
-        NONE,
-        NONE,
-        NONE,
-        NONE,
-        NONE,
-        NONE,
-        NONE,
-        NONE,
-        NONE,
-        NONE,
-        NONE,
-        NONE,
-        NONE,
-        NONE,
-        NONE,
-        NONE,
     ],
-    word: Word {
-        count: 7,
-        letters: [b'r', b'e', b'a', b's', b'o', b'n', b's', 0, 0, 0, 0],
-    },
+    word: b"reasons",
 };
 
 // VERSION
 const BEGIN: MessageKind = MessageKind {
     length: 6,
-    count: 1,
-    places: [
-        Field {
-            width: NUMBER_WIDTH,
-            low: Message::VERSION,
-            high: Message::VERSION,
-        },
-        NONE,
-        NONE,
-        NONE,
-        NONE,
-        NONE,
-        NONE,
-        NONE,
-        NONE,
-        NONE,
-        NONE,
-        NONE,
-        NONE,
-        NONE,
-        NONE,
-        NONE,
-        NONE,
-        NONE,
-        NONE,
-        NONE,
-        NONE,
-        NONE,
-        NONE,
-        NONE,
-        NONE,
-        NONE,
-        NONE,
-    ],
-    word: Word {
-        count: 5,
-        letters: [b'b', b'e', b'g', b'i', b'n', 0, 0, 0, 0, 0, 0],
-    },
+    fields: &[Field {
+        width: NUMBER_WIDTH,
+        low: Message::VERSION,
+        high: Message::VERSION,
+    }],
+    word: b"begin",
 };
 
 // COUNT SUM
 const END: MessageKind = MessageKind {
     length: 14,
-    count: 2,
-    places: [
-        COUNT, SUM, NONE, NONE, NONE, NONE, NONE, NONE, NONE, NONE, NONE, NONE, NONE, NONE, NONE,
-        NONE, NONE, NONE, NONE, NONE, NONE, NONE, NONE, NONE, NONE, NONE, NONE,
-    ],
-    word: Word {
-        count: 3,
-        letters: [b'e', b'n', b'd', 0, 0, 0, 0, 0, 0, 0, 0],
-    },
+    fields: &[COUNT, SUM],
+    word: b"end",
 };
 
 // ID DAY
 const SESSION: MessageKind = MessageKind {
     length: 10,
-    count: 2,
-    places: [
-        ID, DAY, NONE, NONE, NONE, NONE, NONE, NONE, NONE, NONE, NONE, NONE, NONE, NONE, NONE,
-        NONE, NONE, NONE, NONE, NONE, NONE, NONE, NONE, NONE, NONE, NONE, NONE,
-    ],
-    word: Word {
-        count: 7,
-        letters: [b's', b'e', b's', b's', b'i', b'o', b'n', 0, 0, 0, 0],
-    },
+    fields: &[ID, DAY],
+    word: b"session",
 };
 
 // The row of a kind, as `kinds_table` has it.
 fn kind_of(kind: u64) -> MessageKind
-    ensures { result ≡ row_in (kind_row kind) }
+    ensures length { result.length ≡ length_of kind }
+    ensures fields { result.fields.now ≡ fields_of kind }
+    ensures word { result.word.now ≡ kind_word kind }
 {
-    if kind == Message::STATICS {
-        return STATICS;
+    match kind {
+        Message::STATICS => STATICS,
+        Message::RATES => RATES,
+        Message::BANDS => BANDS,
+        Message::MOVE => MOVE,
+        Message::REASONS => REASONS,
+        Message::BEGIN => BEGIN,
+        Message::END => END,
+        Message::SESSION => SESSION,
+        _ => UNKNOWN,
     }
-    if kind == Message::RATES {
-        return RATES;
-    }
-    if kind == Message::BANDS {
-        return BANDS;
-    }
-    if kind == Message::MOVE {
-        return MOVE;
-    }
-    if kind == Message::REASONS {
-        return REASONS;
-    }
-    if kind == Message::BEGIN {
-        return BEGIN;
-    }
-    if kind == Message::END {
-        return END;
-    }
-    if kind == Message::SESSION {
-        return SESSION;
-    }
-    UNKNOWN
 }
 
 // The fields of a kind; past the last a place has no bytes and holds 0.
 pub fn places_of(kind: u64) -> [Field; Message::PLACES]
     ensures { result ≡ places_of kind }
 {
-    let row = kind_of(kind);
-    row.places
+    let fields = kind_of(kind).fields;
+    let mut places = [NONE; Message::PLACES];
+    places[..fields.len()].copy_from_slice(fields);
+    places
 }
 
 // The length that a kind's messages give: of the kind and the fields.
 pub fn length_of(kind: u64) -> u64
     ensures { result ≡ length_of kind }
 {
-    let row = kind_of(kind);
-    row.length
+    kind_of(kind).length
 }
 
 // How many fields a kind has.
 pub fn field_count(kind: u64) -> usize
     ensures { (result ≡ length (fields_of kind)) × (result ≤ places) }
 {
-    let row = kind_of(kind);
-    row.count
+    kind_of(kind).fields.len()
 }
 
 // The word of a kind; an unknown kind has none.
-pub fn word_of(kind: u64) -> Word
-    ensures { (take result.count result.letters ≡ kind_word kind) × (result.count ≤ word_most)
-        × (length result.letters ≡ word_most) }
+pub fn word_of(kind: u64) -> &'static [u8]
+    ensures word { result.now ≡ kind_word kind }
+    ensures most { length result.now ≤ word_most }
 {
-    let row = kind_of(kind);
-    row.word
+    kind_of(kind).word
 }
 
 // ---- when a message is valid

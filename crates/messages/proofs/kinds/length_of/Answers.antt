@@ -1,9 +1,0 @@
--- `length_of` meets its contract: its row has it.
-use Rattle.paper_messages.specs.Fields.{fields_of, places_of}
-use Rattle.paper_messages.specs.Messages.{length_of}
-use Rattle.messages.specs.KindRows.{row_in}
-use Rattle.messages.proofs.kinds.length_of.Goals as goal
-
-pub returns : goal.returns
-unfolding row_in length_of places_of fields_of
-returns c = rw c.kind_of-row.ensures
