@@ -1,2 +1,2 @@
--- The laws of message_records, a file each; other crates may cite them.
+-- The laws of message_records; other crates may cite them.
 pub mod Values

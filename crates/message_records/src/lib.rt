@@ -2,11 +2,11 @@
 // evaluation, 5 with its reasons, 4 of a record after a move of a side, and 8 of a record after an opening.
 #![tactic(auto)]
 
-ghost use Rattle.std.specs.Prelude.{◌≡◌, map, ◌+◌, ◌<◌, set};
+ghost use Rattle.std.specs.Prelude.{◌≡◌, map, ℕ, ◌+◌, ◌<◌, ◌≤◌, length, set};
+ghost use Rattle.paper.specs.Ranges.{side_number};
 ghost use Rattle.paper_desk.specs.Sides.{limit_on};
-ghost use Rattle.paper.specs.Ranges.{flag_of, side_number};
 ghost use Rattle.paper_messages.specs.Fields.{places};
-ghost use Rattle.paper_messages.specs.Records.{value_of, statics_message, rates_message, bands_message};
+ghost use Rattle.paper_messages.specs.Records.{value_of, message, statics_message, rates_message, bands_message};
 ghost use Rattle.paper_messages.specs.Records.{move_message, reasons_message, session_message, price_number};
 ghost use Rattle.paper_messages.specs.Records.{weight_number, replacement_number, tentative_number, level_number};
 
@@ -15,9 +15,7 @@ use paper_messages::Message;
 use paper_reasons::{
     LevelReason, PriceReason, Reasons, ReplacementReason, TentativeReason, WeightReason,
 };
-
-// The first number past the signed 64-bit ones.
-const PAST_SIGNED: u64 = 9_223_372_036_854_775_808;
+use record_soundness::last_day;
 
 // Where the RRCL of each term stands in a message of kind 3: behind ID, DAY and the first K, and each other behind a
 // term's numbers K RRCL RRCH LOWER UPPER.
@@ -30,39 +28,84 @@ const SECOND_LOW: usize = FIRST_LOW + TERM_NUMBERS;
 const THIRD_LOW: usize = SECOND_LOW + TERM_NUMBERS;
 
 // A number as a field's value: one past the signed numbers is out of every range, and stands as -1.
-fn value_of(n: u64) -> i64
+pub fn value_of(n: u64) -> i64
     ensures { result ≡ value_of n }
 {
-    if n < PAST_SIGNED { n as i64 } else { -1 }
+    i64::try_from(n).unwrap_or(-1)
 }
 
-// Numbers as the values of a message.
-pub fn values_of(numbers: [u64; Message::PLACES]) -> [i64; Message::PLACES]
-    ensures { result ≡ map value_of numbers }
+// The message of a kind with these values, and zeros past the last.
+pub fn message(kind: u64, values: &[i64]) -> Message
+    requires { length values.now ≤ places }
+    ensures { result ≡ message kind values.now }
 {
-    let mut values: [i64; Message::PLACES] = [0; Message::PLACES];
-    let mut i = 0;
-    while i < Message::PLACES {
-        values[i] = value_of(numbers[i]);
-        i += 1;
+    let mut fields = [0; Message::PLACES];
+    fields[..values.len()].copy_from_slice(values);
+    Message { kind, fields }
+}
+
+// The message of a kind whose values are these numbers.
+fn message_of<const N: usize>(kind: u64, numbers: [u64; N]) -> Message
+    requires { N ≤ places }
+    ensures { result ≡ message kind (map value_of numbers.entry) }
+{
+    message(kind, &numbers.map(value_of))
+}
+
+// What a message says as a number: a side, "0 upper or 1 lower"; and a reason, 0 for none, then 1, 2, .. in the order of its
+// list.
+trait Numbered {
+    ghost number_of: { Self → ℕ };
+
+    fn number(self) -> u64
+        ensures { result ≡ number_of self };
+}
+
+impl Numbered for Side {
+    ghost number_of = { side_number };
+
+    fn number(self) -> u64 {
+        self as u64
     }
-    values
 }
 
-// "yes/no one (0 or 1)"
-fn flag_of(yes: bool) -> u64
-    ensures { result ≡ flag_of yes }
-{
-    if yes { 1 } else { 0 }
+impl Numbered for PriceReason {
+    ghost number_of = { price_number };
+
+    fn number(self) -> u64 {
+        self as u64
+    }
 }
 
-// "0 upper or 1 lower"
-fn side_number(side: Side) -> u64
-    ensures { result ≡ side_number side }
-{
-    match side {
-        Side::Upper => 0,
-        Side::Lower => 1,
+impl Numbered for WeightReason {
+    ghost number_of = { weight_number };
+
+    fn number(self) -> u64 {
+        self as u64
+    }
+}
+
+impl Numbered for ReplacementReason {
+    ghost number_of = { replacement_number };
+
+    fn number(self) -> u64 {
+        self as u64
+    }
+}
+
+impl Numbered for TentativeReason {
+    ghost number_of = { tentative_number };
+
+    fn number(self) -> u64 {
+        self as u64
+    }
+}
+
+impl Numbered for LevelReason {
+    ghost number_of = { level_number };
+
+    fn number(self) -> u64 {
+        self as u64
     }
 }
 
@@ -75,88 +118,67 @@ fn limit_on(side: Side, x: Limits) -> u64
     }
 }
 
+// A yes or no is 1 or 0: "yes/no one (0 or 1)".
 pub fn statics_message(id: u64, st: Statics) -> Message
     ensures { result ≡ statics_message id st }
 {
-    let monitoring = flag_of(st.monitoring);
-    let ewma = flag_of(st.ewma);
-    let autochange = flag_of(st.autochange);
-    let useexternal = flag_of(st.useexternal);
-    let fields = values_of([
-        id,
-        st.lot,
-        st.h,
-        st.q,
-        st.aup,
-        st.adown,
-        st.wait,
-        st.rh1,
-        st.rh2,
-        st.rh3,
-        st.liq,
-        st.min1,
-        st.min2,
-        st.min3,
-        st.smax,
-        st.xpr,
-        st.shift,
-        st.pchmax,
-        st.pclmax,
-        st.w,
-        st.u,
-        monitoring,
-        ewma,
-        st.uevening,
-        autochange,
-        st.eveningmax,
-        useexternal,
-    ]);
-    Message {
-        kind: Message::STATICS,
-        fields,
-    }
+    message_of(
+        Message::STATICS,
+        [
+            id,
+            st.lot,
+            st.h,
+            st.q,
+            st.aup,
+            st.adown,
+            st.wait,
+            st.rh1,
+            st.rh2,
+            st.rh3,
+            st.liq,
+            st.min1,
+            st.min2,
+            st.min3,
+            st.smax,
+            st.xpr,
+            st.shift,
+            st.pchmax,
+            st.pclmax,
+            st.w,
+            st.u,
+            u64::from(st.monitoring),
+            u64::from(st.ewma),
+            st.uevening,
+            u64::from(st.autochange),
+            st.eveningmax,
+            u64::from(st.useexternal),
+        ],
+    )
 }
 
 pub fn rates_message(r: Record) -> Message
     ensures { result ≡ rates_message r }
 {
-    let standing = r.standing;
-    let day = record_soundness::last_day(standing);
-    let rates = r.rates;
-    let ranges = r.ranges;
-    let fields = values_of([
-        r.id,
-        day,
-        r.p1.units,
-        r.s,
-        r.tentative.bp,
-        r.tentative.age,
-        rates[0].bp,
-        rates[1].bp,
-        rates[2].bp,
-        ranges[0].upper,
-        ranges[1].upper,
-        ranges[2].upper,
-        ranges[0].lower,
-        ranges[1].lower,
-        ranges[2].lower,
-        0,
-        0,
-        0,
-        0,
-        0,
-        0,
-        0,
-        0,
-        0,
-        0,
-        0,
-        0,
-    ]);
-    Message {
-        kind: Message::RATES,
-        fields,
-    }
+    message_of(
+        Message::RATES,
+        [
+            r.id,
+            last_day(r.standing),
+            r.p1.units,
+            r.s,
+            r.tentative.bp,
+            r.tentative.age,
+            r.rates[0].bp,
+            r.rates[1].bp,
+            r.rates[2].bp,
+            r.ranges[0].upper,
+            r.ranges[1].upper,
+            r.ranges[2].upper,
+            r.ranges[0].lower,
+            r.ranges[1].lower,
+            r.ranges[2].lower,
+        ],
+    )
 }
 
 // A term's repo band at its two places: these numbers are signed already.
@@ -164,53 +186,40 @@ fn with_repo(fields: [i64; Message::PLACES], at: usize, term: Term) -> [i64; Mes
     requires { at + 1 < places }
     ensures { result ≡ set (set fields at term.low) (at + 1) term.high }
 {
-    let low = term.low;
-    let high = term.high;
-    let mut o = fields;
-    o[at] = low;
-    o[at + 1] = high;
-    o
+    let mut fields = fields;
+    fields[at] = term.low;
+    fields[at + 1] = term.high;
+    fields
 }
 
 pub fn bands_message(r: Record) -> Message
     ensures { result ≡ bands_message r }
 {
-    let standing = r.standing;
-    let day = record_soundness::last_day(standing);
-    let terms = r.terms;
-    let bands = r.bands;
-    let fields = values_of([
-        r.id,
-        day,
-        terms[0].k,
-        0,
-        0,
-        bands[0].lower,
-        bands[0].upper,
-        terms[1].k,
-        0,
-        0,
-        bands[1].lower,
-        bands[1].upper,
-        terms[2].k,
-        0,
-        0,
-        bands[2].lower,
-        bands[2].upper,
-        0,
-        0,
-        0,
-        0,
-        0,
-        0,
-        0,
-        0,
-        0,
-        0,
-    ]);
-    let fields = with_repo(fields, FIRST_LOW, terms[0]);
-    let fields = with_repo(fields, SECOND_LOW, terms[1]);
-    let fields = with_repo(fields, THIRD_LOW, terms[2]);
+    let m = message_of(
+        Message::BANDS,
+        [
+            r.id,
+            last_day(r.standing),
+            r.terms[0].k,
+            0,
+            0,
+            r.bands[0].lower,
+            r.bands[0].upper,
+            r.terms[1].k,
+            0,
+            0,
+            r.bands[1].lower,
+            r.bands[1].upper,
+            r.terms[2].k,
+            0,
+            0,
+            r.bands[2].lower,
+            r.bands[2].upper,
+        ],
+    );
+    let fields = with_repo(m.fields, FIRST_LOW, r.terms[0]);
+    let fields = with_repo(fields, SECOND_LOW, r.terms[1]);
+    let fields = with_repo(fields, THIRD_LOW, r.terms[2]);
     Message {
         kind: Message::BANDS,
         fields,
@@ -220,159 +229,43 @@ pub fn bands_message(r: Record) -> Message
 pub fn move_message(r: Record, side: Side) -> Message
     ensures { result ≡ move_message r side }
 {
-    let moves = r.moves;
-    let ranges = r.ranges;
-    let bands = r.bands;
-    let fields = values_of([
-        r.id,
-        side_number(side),
-        limits::count_of(side, moves),
-        limit_on(side, ranges[0]),
-        limit_on(side, ranges[1]),
-        limit_on(side, ranges[2]),
-        limit_on(side, bands[0]),
-        limit_on(side, bands[1]),
-        limit_on(side, bands[2]),
-        0,
-        0,
-        0,
-        0,
-        0,
-        0,
-        0,
-        0,
-        0,
-        0,
-        0,
-        0,
-        0,
-        0,
-        0,
-        0,
-        0,
-        0,
-    ]);
-    Message {
-        kind: Message::MOVE,
-        fields,
-    }
-}
-
-// ---- the reasons as numbers: 0 for none, then 1, 2, .. in the order of their list
-
-fn price_number(y: PriceReason) -> u64
-    ensures { result ≡ price_number y }
-{
-    match y {
-        PriceReason::None => 0,
-        PriceReason::Close => 1,
-        PriceReason::Bid => 2,
-        PriceReason::Ask => 3,
-        PriceReason::Yesterday => 4,
-    }
-}
-
-fn weight_number(y: WeightReason) -> u64
-    ensures { result ≡ weight_number y }
-{
-    match y {
-        WeightReason::None => 0,
-        WeightReason::Zero => 1,
-        WeightReason::Up => 2,
-        WeightReason::Down => 3,
-    }
-}
-
-fn replacement_number(y: ReplacementReason) -> u64
-    ensures { result ≡ replacement_number y }
-{
-    match y {
-        ReplacementReason::None => 0,
-        ReplacementReason::Yes => 1,
-        ReplacementReason::No => 2,
-    }
-}
-
-fn tentative_number(y: TentativeReason) -> u64
-    ensures { result ≡ tentative_number y }
-{
-    match y {
-        TentativeReason::None => 0,
-        TentativeReason::Rose => 1,
-        TentativeReason::Fell => 2,
-        TentativeReason::Waited => 3,
-        TentativeReason::Level => 4,
-    }
-}
-
-fn level_number(y: LevelReason) -> u64
-    ensures { result ≡ level_number y }
-{
-    match y {
-        LevelReason::None => 0,
-        LevelReason::Requirement => 1,
-        LevelReason::Minimum => 2,
-        LevelReason::Maximum => 3,
-    }
+    message_of(
+        Message::MOVE,
+        [
+            r.id,
+            side.number(),
+            limits::count_of(side, r.moves),
+            limit_on(side, r.ranges[0]),
+            limit_on(side, r.ranges[1]),
+            limit_on(side, r.ranges[2]),
+            limit_on(side, r.bands[0]),
+            limit_on(side, r.bands[1]),
+            limit_on(side, r.bands[2]),
+        ],
+    )
 }
 
 pub fn reasons_message(r: Record, y: Reasons) -> Message
     ensures { result ≡ reasons_message r y }
 {
-    let standing = r.standing;
-    let day = record_soundness::last_day(standing);
-    let price = y.price;
-    let weight = y.weight;
-    let replacement = y.replacement;
-    let tentative = y.tentative;
-    let level1 = y.level1;
-    let level2 = y.level2;
-    let level3 = y.level3;
-    let fields = values_of([
-        r.id,
-        day,
-        price_number(price),
-        weight_number(weight),
-        replacement_number(replacement),
-        tentative_number(tentative),
-        level_number(level1),
-        level_number(level2),
-        level_number(level3),
-        0,
-        0,
-        0,
-        0,
-        0,
-        0,
-        0,
-        0,
-        0,
-        0,
-        0,
-        0,
-        0,
-        0,
-        0,
-        0,
-        0,
-        0,
-    ]);
-    Message {
-        kind: Message::REASONS,
-        fields,
-    }
+    message_of(
+        Message::REASONS,
+        [
+            r.id,
+            last_day(r.standing),
+            y.price.number(),
+            y.weight.number(),
+            y.replacement.number(),
+            y.tentative.number(),
+            y.level1.number(),
+            y.level2.number(),
+            y.level3.number(),
+        ],
+    )
 }
 
 pub fn session_message(r: Record) -> Message
     ensures { result ≡ session_message r }
 {
-    let standing = r.standing;
-    let day = record_soundness::last_day(standing);
-    let fields = values_of([
-        r.id, day, 0, 0, 0, 0, 0, 0, 0, 0, 0, 0, 0, 0, 0, 0, 0, 0, 0, 0, 0, 0, 0, 0, 0, 0, 0,
-    ]);
-    Message {
-        kind: Message::SESSION,
-        fields,
-    }
+    message_of(Message::SESSION, [r.id, last_day(r.standing)])
 }

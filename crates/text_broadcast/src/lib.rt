@@ -3,7 +3,7 @@
 // is encoded.
 #![tactic(auto, using(text_out::specs::Appends::appending), unfolding(paper_messages::specs::Broadcast::all_sent, crate::specs::Sent::messages_shown, crate::specs::Sent::shown_to, crate::specs::Sent::broadcast_shown, crate::specs::Sent::count_shown))]
 
-ghost use Rattle.std.specs.Prelude.{◌≡◌, ◌++◌, ◌+◌, ◌≤◌, length, set};
+ghost use Rattle.std.specs.Prelude.{◌≡◌, ◌++◌, ◌+◌, ◌≤◌, length};
 ghost use Rattle.text_bytes.specs.Bytes.{room};
 ghost use Rattle.text_protocol.specs.Answers.{answer_most};
 ghost use Rattle.paper_messages.specs.Broadcast.{message_most, sent};
@@ -14,8 +14,8 @@ ghost use Rattle.text_broadcast.specs.Sent.{broadcast_shown, count_shown};
 
 use inputs::statics_of;
 use message_records::{
-    bands_message, move_message, rates_message, reasons_message, session_message, statics_message,
-    values_of,
+    bands_message, message, move_message, rates_message, reasons_message, session_message,
+    statics_message, value_of,
 };
 use messages::write;
 use paper::{Answer, Verdict};
@@ -65,6 +65,7 @@ pub fn say_messages(out: &mut Text, role: Role, answer: Answer, reasons: Reasons
 }
 
 // How many messages those are.
+#[tactic(auto, unfolding(crate::specs::Sent::count_shown))]
 pub fn count_messages(role: Role, verdict: Verdict) -> u64
     ensures { result ≡ count_shown role verdict }
 {
@@ -83,13 +84,7 @@ pub fn count_messages(role: Role, verdict: Verdict) -> u64
 pub fn begin_message() -> Message
     ensures { result ≡ begin_message }
 {
-    let fields = values_of([
-        1, 0, 0, 0, 0, 0, 0, 0, 0, 0, 0, 0, 0, 0, 0, 0, 0, 0, 0, 0, 0, 0, 0, 0, 0, 0, 0,
-    ]);
-    Message {
-        kind: Message::BEGIN,
-        fields,
-    }
+    message(Message::BEGIN, &[Message::VERSION])
 }
 
 // The greatest number of a sum, and the greatest that its field has as it is.
@@ -108,26 +103,9 @@ fn sum_value(sum: u32) -> i64
     -1 - ((SUM_MOST - number) as i64)
 }
 
-// A sum at its place, behind the count: this number is signed already.
-fn with_sum(fields: [i64; Message::PLACES], sum: i64) -> [i64; Message::PLACES]
-    ensures { result ≡ set fields 1 sum }
-{
-    let mut o = fields;
-    o[1] = sum;
-    o
-}
-
 // How many messages stand before it, and the sum of their bytes.
 pub fn end_message(s: Stream) -> Message
     ensures { result ≡ end_message s.count s.sum }
 {
-    let fields = values_of([
-        s.count, 0, 0, 0, 0, 0, 0, 0, 0, 0, 0, 0, 0, 0, 0, 0, 0, 0, 0, 0, 0, 0, 0, 0, 0, 0, 0,
-    ]);
-    let sum = sum_value(s.sum);
-    let fields = with_sum(fields, sum);
-    Message {
-        kind: Message::END,
-        fields,
-    }
+    message(Message::END, &[value_of(s.count), sum_value(s.sum)])
 }

@@ -10,6 +10,6 @@ returns c =
       c.with_repo-fields-3.ensures,
       c.with_repo-fields-2.ensures,
       c.with_repo-fields.ensures,
-      c.values_of-fields.ensures,
-      c.last_day-day.ensures,
+      c.message_of-m.ensures,
+      c.last_day.ensures,
     )

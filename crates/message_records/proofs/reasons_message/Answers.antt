@@ -1,19 +1,17 @@
--- `reasons_message` meets its contract: the message's values, place by place.
-use Rattle.paper_messages.specs.Records.{reasons_message, message, value_of}
-use Rattle.paper_messages.specs.Fields.{filled}
+-- `reasons_message` meets its contract: the message's numbers, place by place.
+use Rattle.paper_messages.specs.Records.{reasons_message}
 use Rattle.message_records.proofs.reasons_message.Goals as goal
 
 pub returns : goal.returns
-unfolding reasons_message message filled value_of
+unfolding reasons_message
 returns c =
     rw (
-      c.values_of-fields.ensures,
-      c.last_day-day.ensures,
-      c.price_number.ensures,
-      c.weight_number.ensures,
-      c.replacement_number.ensures,
-      c.tentative_number.ensures,
-      c.level_number.ensures,
-      c.level_number-2.ensures,
-      c.level_number-3.ensures,
-    )
+      c.last_day.ensures,
+      c.number.ensures,
+      c.number-2.ensures,
+      c.number-3.ensures,
+      c.number-4.ensures,
+      c.number-5.ensures,
+      c.number-6.ensures,
+      c.number-7.ensures,
+    ) at c.message_of.ensures

@@ -1,8 +1,7 @@
--- `session_message` meets its contract: the message's values, place by place.
-use Rattle.paper_messages.specs.Records.{session_message, message, value_of}
-use Rattle.paper_messages.specs.Fields.{filled}
+-- `session_message` meets its contract: the message's numbers, place by place.
+use Rattle.paper_messages.specs.Records.{session_message}
 use Rattle.message_records.proofs.session_message.Goals as goal
 
 pub returns : goal.returns
-unfolding session_message message filled value_of
-returns c = rw (c.values_of-fields.ensures, c.last_day-day.ensures)
+unfolding session_message
+returns c = rw c.last_day.ensures at c.message_of.ensures

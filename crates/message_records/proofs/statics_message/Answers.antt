@@ -1,15 +1,8 @@
--- `statics_message` meets its contract: the message's values, place by place.
-use Rattle.paper_messages.specs.Records.{statics_message, message}
-use Rattle.paper_messages.specs.Fields.{filled}
+-- `statics_message` meets its contract: the message's numbers, place by place.
+use Rattle.paper_messages.specs.Records.{statics_message}
 use Rattle.message_records.proofs.statics_message.Goals as goal
 
 pub returns : goal.returns
-unfolding statics_message message filled
+unfolding statics_message
 returns c =
-    rw (
-      c.values_of-fields.ensures,
-      c.flag_of-monitoring.ensures,
-      c.flag_of-ewma.ensures,
-      c.flag_of-autochange.ensures,
-      c.flag_of-useexternal.ensures,
-    )
+    rw (c.from.ensures, c.from-2.ensures, c.from-3.ensures, c.from-4.ensures) at c.message_of.ensures

@@ -1,15 +1,11 @@
--- `value_of` meets its contract: its test is that of the definition, and a number below the bound is the same number
--- with a sign.
-use borrow.Author.Tests.{lt-ltb, le-ltb}
-use mir.Facts.{to_z_pos}
+-- `value_of` meets its contract: a number that fits stands for itself, and -1 for every other.
+use mathlib.Core.Path.{◌∙◌}
+use mir.Facts.{to_z-of_z}
 use mir.Syntax.{w64}
-use Rattle.paper_messages.specs.Records.{past_signed, value_of}
+use Rattle.message_records.proofs.Values.{fitting_is_value}
 use Rattle.message_records.proofs.value_of.Goals as goal
 
-pub returns-then-n-lt-PAST_SIGNED : goal.returns-then-n-lt-PAST_SIGNED
-unfolding value_of
-returns-then-n-lt-PAST_SIGNED c = rw (to_z_pos w64 c.if-n-lt-PAST_SIGNED.true, lt-ltb _ past_signed c.if-n-lt-PAST_SIGNED.true)
-
-pub returns-else-n-lt-PAST_SIGNED : goal.returns-else-n-lt-PAST_SIGNED
-unfolding value_of
-returns-else-n-lt-PAST_SIGNED c = rw (le-ltb _ past_signed c.if-n-lt-PAST_SIGNED.false)
+pub returns : goal.returns
+returns c =
+    rw (to_z-of_z {w = w64} {z = c.unwrap_or.result} (record { sfits = c.unwrap_or.type_inv }))
+    (c.unwrap_or.ensures ∙ fitting_is_value c.try_from.result c.args.n c.try_from.ensures)
