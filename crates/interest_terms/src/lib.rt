@@ -1,6 +1,6 @@
 // Document 02, W-201: "The security's evaluation may take these limits or given ones." A day as it is asked for becomes
 // a day of document 01.
-#![tactic(auto)]
+#![tactic(auto, unfolding(paper::specs::Terms::worked_repo, paper::specs::Terms::repo_of, paper::specs::Terms::term_of, paper::specs::Terms::day_of))]
 
 ghost use Rattle.std.specs.Prelude.{◌≡◌};
 ghost use Rattle.paper.specs.Terms.{worked_repo, repo_of, term_of, day_of};
@@ -12,8 +12,7 @@ use paper::{AskedDay, AskedTerm, Day, RepoBand, RepoLimits, Term, WorkedBand};
 fn worked_repo(pair: WorkedBand) -> RepoLimits
     ensures { result ≡ worked_repo pair }
 {
-    let verdict = pair.verdict;
-    if verdict.is_done() {
+    if pair.verdict.is_done() {
         RepoLimits {
             low: pair.lower,
             high: pair.upper,
@@ -36,8 +35,7 @@ fn repo_of(band: RepoBand) -> RepoLimits
 pub fn term_of(x: AskedTerm) -> Term
     ensures { result ≡ term_of x }
 {
-    let band = x.band;
-    let repo = repo_of(band);
+    let repo = repo_of(x.band);
     Term {
         k: x.k,
         low: repo.low,
@@ -49,13 +47,11 @@ pub fn term_of(x: AskedTerm) -> Term
 pub fn day_of(a: AskedDay) -> Day
     ensures { result ≡ day_of a }
 {
-    let first = term_of(a.first);
-    let second = term_of(a.second);
-    let third = term_of(a.third);
+    let terms = [term_of(a.first), term_of(a.second), term_of(a.third)];
     Day {
         day: a.day,
         b: a.b,
         m: a.m,
-        terms: [first, second, third],
+        terms,
     }
 }
