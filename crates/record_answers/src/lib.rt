@@ -68,11 +68,10 @@ pub fn blank() -> Record
 pub fn absent(n: usize) -> Slot
     ensures { result ≡ record { count = n; at = n; rec = blank } }
 {
-    let rec = blank();
     Slot {
         count: n,
         at: n,
-        rec,
+        rec: blank(),
     }
 }
 
@@ -82,10 +81,9 @@ pub fn absent(n: usize) -> Slot
 pub fn saying(v: Verdict) -> Answer
     ensures { result ≡ saying v }
 {
-    let rec = blank();
     Answer {
         verdict: v,
-        rec,
+        rec: blank(),
         top: false,
         bottom: false,
     }
@@ -108,10 +106,9 @@ fn showing(r: Record) -> Answer
 fn alerting(top: bool, bottom: bool) -> Answer
     ensures { result ≡ alerting «top» «bottom» }
 {
-    let rec = blank();
     Answer {
         verdict: Verdict::Done,
-        rec,
+        rec: blank(),
         top,
         bottom,
     }
@@ -121,13 +118,9 @@ fn alerting(top: bool, bottom: bool) -> Answer
 pub fn answered(o: Effect) -> Answer
     ensures { result ≡ answer_of o }
 {
-    let replied = o.replied;
-    match replied {
+    match o.replied {
         Replied::Number(v) => saying(v),
-        Replied::TheRecord => {
-            let rec = o.rec;
-            showing(rec)
-        }
+        Replied::TheRecord => showing(o.rec),
         Replied::Alerts(top, bottom) => alerting(top, bottom),
     }
 }
@@ -135,10 +128,9 @@ pub fn answered(o: Effect) -> Answer
 pub fn refused(count: usize, v: Verdict) -> Effect
     ensures { result ≡ refused_effect count v }
 {
-    let rec = blank();
     Effect {
         at: count,
-        rec,
+        rec: blank(),
         replied: Replied::Number(v),
     }
 }
@@ -166,6 +158,5 @@ pub fn holds(s: Slot) -> bool
 pub fn is_known(s: Slot) -> bool
     ensures { result ≡ is_known s }
 {
-    let r = s.rec;
-    record_soundness::valid_slots(s.count) & holds(s) & record_soundness::sound(r)
+    record_soundness::valid_slots(s.count) & holds(s) & record_soundness::sound(s.rec)
 }

@@ -16,10 +16,7 @@ use paper::{
 pub fn is_live(standing: Standing) -> bool
     ensures { result ≡ is_live standing }
 {
-    match standing {
-        Standing::Admitted(_) => false,
-        Standing::Live(_) => true,
-    }
+    matches!(standing, Standing::Live(_))
 }
 
 // Of an admitted-only record the last day is the one given at admission.
@@ -27,15 +24,14 @@ pub fn last_day(standing: Standing) -> u64
     ensures { result ≡ last_day standing }
 {
     match standing {
-        Standing::Admitted(day) => day,
-        Standing::Live(day) => day,
+        Standing::Admitted(day) | Standing::Live(day) => day,
     }
 }
 
 fn valid_rates(rates: [Rate; Record::LEVELS]) -> bool
     ensures { result ≡ all_three (λ i. is_rate (rate_at rates i)) }
 {
-    is_rate(rates[0].bp) & is_rate(rates[1].bp) & is_rate(rates[2].bp)
+    rates.iter().all(|rate| is_rate(rate.bp))
 }
 
 // "limits on the grid 0..2·10^12 + 2·10^10"
@@ -64,12 +60,8 @@ fn valid_ranges_and_bands(
     ensures { result ≡ (all_three (λ i. valid_limits (grid_of lot) (get_or ranges i no_limits))
         && all_three (λ k. valid_limits (grid_of lot) (get_or bands k no_limits))) }
 {
-    valid_limits(lot, ranges[0])
-        & valid_limits(lot, ranges[1])
-        & valid_limits(lot, ranges[2])
-        & valid_limits(lot, bands[0])
-        & valid_limits(lot, bands[1])
-        & valid_limits(lot, bands[2])
+    ranges.iter().all(|range| valid_limits(lot, *range))
+        & bands.iter().all(|band| valid_limits(lot, *band))
 }
 
 fn valid_near(near: Option<u64>) -> bool
@@ -84,18 +76,13 @@ fn valid_near(near: Option<u64>) -> bool
 pub fn valid_near_seconds(n: NearSeconds) -> bool
     ensures { result ≡ valid_near_seconds n }
 {
-    let top = n.top;
-    let bottom = n.bottom;
-    valid_near(top) & valid_near(bottom)
+    valid_near(n.top) & valid_near(n.bottom)
 }
 
 fn valid_three_near(near: [NearSeconds; Record::TERMS]) -> bool
     ensures { result ≡ all_three (λ k. valid_near_seconds (get_or near k not_near)) }
 {
-    let first = near[0];
-    let second = near[1];
-    let third = near[2];
-    valid_near_seconds(first) & valid_near_seconds(second) & valid_near_seconds(third)
+    near.iter().all(|n| valid_near_seconds(*n))
 }
 
 // W-210: "main, or evening with the evening moves made", which the evening maximum's range holds.
@@ -120,14 +107,12 @@ fn valid_external(x: External) -> bool
 fn sound_figures(r: Record) -> bool
     ensures { result ≡ sound_figures r }
 {
-    let st = r.statics;
-    let standing = r.standing;
-    if valid_id(r.id) & valid_statics(st) {
-        let day = last_day(standing);
-        return valid_figures(st, day, r.p1.units, r.p2.units, r.s, r.tentative.bp)
-            & (r.tentative.age <= Record::AGE_MOST);
+    if !(valid_id(r.id) & valid_statics(r.statics)) {
+        return false;
     }
-    false
+    let day = last_day(r.standing);
+    valid_figures(r.statics, day, r.p1.units, r.p2.units, r.s, r.tentative.bp)
+        & (r.tentative.age <= Record::AGE_MOST)
 }
 
 // The limits, terms and near seconds are taken out of the record only where its figures are sound.
@@ -137,23 +122,15 @@ pub fn sound(r: Record) -> bool
     if !sound_figures(r) {
         return false;
     }
-    let lot = r.statics.lot;
-    let rates = r.rates;
-    let ranges = r.ranges;
-    let terms = r.terms;
-    let bands = r.bands;
-    let near = r.near;
-    let session = r.session;
-    let external = r.external;
-    valid_rates(rates)
-        & valid_ranges_and_bands(lot, ranges, bands)
-        & valid_terms(terms)
+    valid_rates(r.rates)
+        & valid_ranges_and_bands(r.statics.lot, r.ranges, r.bands)
+        & valid_terms(r.terms)
         & (r.moves.upper <= Record::MOVES_MOST)
         & (r.moves.lower <= Record::MOVES_MOST)
-        & valid_three_near(near)
+        & valid_three_near(r.near)
         & (r.second <= Record::SECOND_LAST)
-        & valid_session(session)
-        & valid_external(external)
+        & valid_session(r.session)
+        & valid_external(r.external)
 }
 
 // "1 to 512 slots": a call refuses any other table.

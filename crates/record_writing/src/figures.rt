@@ -15,6 +15,7 @@ fn ranges_of(st: Statics, p: Price, rates: [Rate; Record::LEVELS]) -> [Limits; R
     requires { RangesAsked p rates }
     ensures { result ≡ three (λ i. range_of st p.units (rate_at rates i)) }
 {
+    // A `map` would have to know of each rate that the price and it are in range, which only the three places say.
     [
         limits::range_of(st, p, rates[0]),
         limits::range_of(st, p, rates[1]),
@@ -39,17 +40,14 @@ pub fn made_at(r: Record, d: Day, p: Price, f: Figures) -> Made
     requires { Evaluating r d p f }
     ensures { Makes r d p.units result }
 {
-    let statics = r.statics;
-    let tentative = f.tentative;
     let rates = f.rates;
-    let terms = d.terms;
-    let moves = Moves { upper: 0, lower: 0 };
-    let ranges = ranges_of(statics, p, rates);
-    let bands = limits::bands_of(statics, p, rates[0], moves, terms);
+    let ranges = ranges_of(r.statics, p, rates);
+    let cleared = Moves { upper: 0, lower: 0 };
+    let bands = limits::bands_of(r.statics, p, rates[0], cleared, d.terms);
     Made {
         p1: p,
         s: f.s,
-        tentative,
+        tentative: f.tentative,
         rates,
         ranges,
         bands,
@@ -60,35 +58,27 @@ pub fn made_at(r: Record, d: Day, p: Price, f: Figures) -> Made
 pub fn evaluated(r: Record, d: Day, made: Made) -> Record
     ensures { Evaluates r d made result }
 {
-    let statics = r.statics;
-    let external = r.external;
-    let earlier = r.p1;
-    let later = made.p1;
-    let tentative = made.tentative;
     let rates = made.rates;
     let ranges = made.ranges;
     let bands = made.bands;
     let terms = d.terms;
-    let cleared = Moves { upper: 0, lower: 0 };
     Record {
-        id: r.id,
-        statics,
         standing: Standing::Live(d.day),
-        p1: later,
-        p2: earlier,
+        p1: made.p1,
+        p2: r.p1,
         s: made.s,
-        tentative,
+        tentative: made.tentative,
         rates,
         ranges,
         terms,
         bands,
-        moves: cleared,
+        moves: Moves { upper: 0, lower: 0 },
         near: [NearSeconds {
             top: None,
             bottom: None,
         }; Record::TERMS],
         second: 0,
         session: Session::Main, // W-210: "An evaluation puts the record back in main."
-        external,
+        ..r
     }
 }

@@ -26,8 +26,7 @@ pub fn admitted(a: Admission, p1: Price, p2: Price) -> Record
     requires { Admitting a p1 p2 }
     ensures { result ≡ admitted a }
 {
-    let given = a.given;
-    let statics = inputs::statics_of(given);
+    let statics = inputs::statics_of(a.given);
     let rates = rates_level::minima(statics);
     Record {
         id: a.id,
@@ -68,17 +67,13 @@ pub fn near_on(r: Record, q: Quote) -> NearSeconds
     ensures { result ≡ near_on r q }
 {
     let term = q.term as usize;
-    let bands = r.bands;
-    let near = r.near;
-    let x = bands[term];
-    let n = near[term];
-    let top = n.top;
-    let bottom = n.bottom;
-    let above = alerts::is_near(Side::Upper, r.statics.w, x, q.bid);
-    let below = alerts::is_near(Side::Lower, r.statics.w, x, q.ask);
+    let band = r.bands[term];
+    let near = r.near[term];
+    let above = alerts::is_near(Side::Upper, r.statics.w, band, q.bid);
+    let below = alerts::is_near(Side::Lower, r.statics.w, band, q.ask);
     NearSeconds {
-        top: alerts::near_after(above, top, q.second),
-        bottom: alerts::near_after(below, bottom, q.second),
+        top: alerts::near_after(above, near.top, q.second),
+        bottom: alerts::near_after(below, near.bottom, q.second),
     }
 }
 
@@ -92,6 +87,7 @@ fn ranges_moved(
     requires { Shiftable delta ranges }
     ensures { result ≡ three (λ i. range_moved_by side delta (get_or ranges i no_limits)) }
 {
+    // A `map` would have to know of each range that it can be shifted, which only the three places say.
     [
         limits::range_moved(side, delta, ranges[0]),
         limits::range_moved(side, delta, ranges[1]),
@@ -116,14 +112,7 @@ fn bands_moved(
 fn near_cleared(side: Side, near: [NearSeconds; Record::TERMS]) -> [NearSeconds; Record::TERMS]
     ensures { result ≡ three (λ k. near_cleared side (get_or near k not_near)) }
 {
-    let first = near[0];
-    let second = near[1];
-    let third = near[2];
-    [
-        alerts::near_cleared(side, first),
-        alerts::near_cleared(side, second),
-        alerts::near_cleared(side, third),
-    ]
+    near.map(|n| alerts::near_cleared(side, n))
 }
 
 // "It adds one to c, remakes that side's three band limits, and shifts its three range limits by delta. It clears that
@@ -133,43 +122,19 @@ pub fn moved(r: Record, side: Side) -> Record
     requires moves_bound { count_of side r.moves < moves_most }
     ensures { result ≡ moved r side }
 {
-    let statics = r.statics;
-    let standing = r.standing;
-    let tentative = r.tentative;
-    let rates = r.rates;
-    let terms = r.terms;
-    let ranges = r.ranges;
-    let bands = r.bands;
-    let near = r.near;
-    let moves = r.moves;
-    let session = r.session;
-    let external = r.external;
-    let p1 = r.p1;
-    let p2 = r.p2;
-    let s1 = rates[0];
-    let c = limits::one_more(side, moves);
-    let fresh = limits::bands_of(statics, p1, s1, c, terms);
-    let shifted = ranges_moved(side, limits::delta(statics, p1, s1), ranges);
-    let remade = bands_moved(side, fresh, bands);
-    let cleared = near_cleared(side, near);
-    let counted = alerts::session::session_moved(session);
+    let s1 = r.rates[0];
+    let moves = limits::one_more(side, r.moves);
+    let fresh = limits::bands_of(r.statics, r.p1, s1, moves, r.terms);
+    let ranges = ranges_moved(side, limits::delta(r.statics, r.p1, s1), r.ranges);
+    let bands = bands_moved(side, fresh, r.bands);
+    let near = near_cleared(side, r.near);
     Record {
-        id: r.id,
-        statics,
-        standing,
-        p1,
-        p2,
-        s: r.s,
-        tentative,
-        rates,
-        ranges: shifted,
-        terms,
-        bands: remade,
-        moves: c,
-        near: cleared,
-        second: r.second,
-        session: counted,
-        external,
+        ranges,
+        bands,
+        moves,
+        near,
+        session: alerts::session::session_moved(r.session),
+        ..r
     }
 }
 
@@ -186,32 +151,11 @@ pub fn watching(
 ) -> Record
     ensures { result ≡ watching r near second session external }
 {
-    let statics = r.statics;
-    let standing = r.standing;
-    let p1 = r.p1;
-    let p2 = r.p2;
-    let tentative = r.tentative;
-    let rates = r.rates;
-    let ranges = r.ranges;
-    let terms = r.terms;
-    let bands = r.bands;
-    let kept = r.moves;
     Record {
-        id: r.id,
-        statics,
-        standing,
-        p1,
-        p2,
-        s: r.s,
-        tentative,
-        rates,
-        ranges,
-        terms,
-        bands,
-        moves: kept,
         near,
         second,
         session,
         external,
+        ..r
     }
 }

@@ -5,4 +5,4 @@ use Rattle.record_answers.proofs.absent.Goals as goal
 
 pub returns : goal.returns
 returns c = ap (λ (r : Record). record { count = c.args.n; at = c.args.n; rec = r })
-    c.blank-rec.ensures
+    c.blank.ensures

@@ -4,4 +4,4 @@ use Rattle.record_answers.proofs.alerting.Goals as goal
 
 pub returns : goal.returns
 unfolding alerting
-returns c = rw c.blank-rec.ensures
+returns c = rw c.blank.ensures

@@ -4,4 +4,4 @@ use Rattle.record_answers.proofs.refused.Goals as goal
 
 pub returns : goal.returns
 unfolding refused_effect
-returns c = rw c.blank-rec.ensures
+returns c = rw c.blank.ensures

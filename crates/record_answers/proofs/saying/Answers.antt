@@ -4,4 +4,4 @@ use Rattle.record_answers.proofs.saying.Goals as goal
 
 pub returns : goal.returns
 unfolding saying
-returns c = rw c.blank-rec.ensures
+returns c = rw c.blank.ensures

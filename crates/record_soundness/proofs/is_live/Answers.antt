@@ -2,10 +2,10 @@
 use Rattle.paper.specs.Ranges.{is_live}
 use Rattle.record_soundness.proofs.is_live.Goals as goal
 
-pub returns-in-Admitted : goal.returns-in-Admitted
-unfolding is_live
-returns-in-Admitted c = rw c.in-Admitted.is
-
 pub returns-in-Live : goal.returns-in-Live
 unfolding is_live
 returns-in-Live c = rw c.in-Live.is
+
+pub returns-in_default : goal.returns-in_default
+unfolding is_live
+returns-in_default c = rw c.in_default.is

@@ -5,17 +5,17 @@ use Rattle.paper_desk.specs.Desk.{near_on}
 use Rattle.record_writing.proofs.Facts.{quoted_term_below_three, band_near_in_range}
 use Rattle.record_writing.proofs.near_on.Goals as goal
 
-pub offset_bounds-bands-term : goal.offset_bounds-bands-term
-offset_bounds-bands-term c = record { fits = omega (arith, quoted_term_below_three _ c.requires.q_value) }
+pub offset_bounds-r-term : goal.offset_bounds-r-term
+offset_bounds-r-term c = record { fits = omega (arith, quoted_term_below_three _ c.requires.q_value) }
 
-pub bounds-bands-term : goal.bounds-bands-term
-bounds-bands-term c = quoted_term_below_three _ c.requires.q_value
+pub bounds-r-term : goal.bounds-r-term
+bounds-r-term c = quoted_term_below_three _ c.requires.q_value
 
-pub offset_bounds-near-term : goal.offset_bounds-near-term
-offset_bounds-near-term c = record { fits = omega (arith, quoted_term_below_three _ c.requires.q_value) }
+pub offset_bounds-r-term-2 : goal.offset_bounds-r-term-2
+offset_bounds-r-term-2 c = record { fits = omega (arith, quoted_term_below_three _ c.requires.q_value) }
 
-pub bounds-near-term : goal.bounds-near-term
-bounds-near-term c = quoted_term_below_three _ c.requires.q_value
+pub bounds-r-term-2 : goal.bounds-r-term-2
+bounds-r-term-2 c = quoted_term_below_three _ c.requires.q_value
 
 pub returns : goal.returns
 unfolding near_on
