@@ -10,6 +10,7 @@ use Rattle.paper.specs.declared.Quote.{Quote}
 use Rattle.paper.specs.declared.Record.{Record}
 use Rattle.paper.specs.declared.Side.{Side}
 use Rattle.paper.specs.declared.Side.TheVariants.{Upper, Lower}
+use Rattle.paper.specs.declared.Verdict.{Verdict}
 use Rattle.paper.specs.declared.Verdict.TheVariants.{MovesUsedUp, SecondEarlier, NoEveningMove}
 use Rattle.paper.specs.Lists.{pick, every}
 use Rattle.paper.specs.Numbers.{moves_most}
@@ -25,7 +26,8 @@ use Rattle.record_answers.specs.declared.Slot.{Slot}
 use Rattle.record_answers.specs.declared.Effect.{Effect}
 use Rattle.record_answers.specs.declared.Replied.TheVariants.{TheRecord}
 use Rattle.record_answers.specs.Effects.{is_known, refused_effect, judged_effect, replied_on, effect_of}
-use Rattle.record_monitoring.specs.SharedChecks.{shared_checks}
+use Rattle.std.specs.Prelude.{Result, Ok, Err, ⊤}
+use Rattle.record_monitoring.specs.SharedChecks.{shared_checks, passed_by}
 
 -- ---- quote 1, 6, 10, 11, 13; move 1, 6, 10, 11, 18, 12
 
@@ -47,6 +49,24 @@ unfolding judged_effect
 effect_stays count cs more accepted n =
     rw (first_stays cs more n) (sym (pick_false (is_done (first_of cs)) accepted (refused_effect count (first_of cs)) n))
 
+-- what checks give says whether one of them applies, and which
+ok_apart : {u : ⊤} {v : Verdict} → ◌≡◌ {A = Result ⊤ Verdict} (Ok u) (Err v) → ⊥
+ok_apart e = let z : ◌≡◌ {A = ℕ} 0 1 = cc in omega arith
+
+let_through : {u : ⊤} (v : Verdict) → Ok u ≡ passed_by v → is_done v ≡ true
+let_through {u} v e = go (is_done v) e
+  where
+    go : (b : Bool) → ◌≡◌ {A = Result ⊤ Verdict} (Ok u) (pick b (Ok tt) (Err v)) → b ≡ true
+    go true e = refl
+    go false e = absurd (ok_apart e)
+
+pub stopped_by : (v w : Verdict) → Err w ≡ passed_by v → (is_done v ≡ false) × (w ≡ v)
+stopped_by v w e = go (is_done v) e
+  where
+    go : (b : Bool) → ◌≡◌ {A = Result ⊤ Verdict} (Err w) (pick b (Ok tt) (Err v)) → (b ≡ false) × (w ≡ v)
+    go true e = absurd (ok_apart (sym e))
+    go false e = (refl, cc)
+
 -- 1, 6, 10 and 11 do not apply
 pub record Passed (there in_range : Bool) (r : Record) : Type 0 where
   pub known : there ≡ true
@@ -62,6 +82,10 @@ past_shared there in_range r e = go (done_means_none_applies (shared_checks ther
     go : NoneApplies (shared_checks there in_range r) → Passed there in_range r
     go (also a (also b (also c (also d none)))) =
         record { known = not_false _ a; valid = not_false _ b; live = not_false _ c; monitored = not_false _ d }
+
+pub passed : {there tested in_range : Bool} {r : Record} {u : ⊤} → tested ≡ in_range
+    → Ok u ≡ passed_by (first_of (shared_checks there tested r)) → Passed there in_range r
+passed e p = past_shared _ _ _ (let_through _ (rw e at p))
 
 module _ (s : Slot) (q : Quote) where
   pub quote_stopped : is_done (first_of (shared_checks (is_known s) (valid_quote q) s.rec)) ≡ false

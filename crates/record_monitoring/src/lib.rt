@@ -7,28 +7,26 @@ ghost use Rattle.paper.specs.Ranges.{valid_quote};
 ghost use Rattle.paper.specs.Verdicts.{first_of};
 ghost use Rattle.paper_desk.specs.Desk.{Ask, the_alerts, near_on, quoted};
 ghost use Rattle.record_answers.specs.Effects.{is_known, replied_on, effect_of};
-ghost use Rattle.record_monitoring.specs.SharedChecks.{shared_checks};
+ghost use Rattle.record_monitoring.specs.SharedChecks.{shared_checks, passed_by};
 
 use paper::{NearSeconds, Quote, Record, Side, Verdict};
 use record_answers::{Effect, Replied, Slot};
 
-// 6, 10 and 11 behind 1, which a quote and a move have in this order: the first that applies, or done.
-fn shared_checks(s: Slot, in_range: bool) -> Verdict
+// 6, 10 and 11 behind 1, which a quote and a move have in this order: the first that applies.
+fn shared_checks(s: Slot, in_range: bool) -> Result<(), Verdict>
     requires { is_known s ≡ true }
-    ensures { result ≡ first_of (shared_checks (is_known s) in_range s.rec) }
+    ensures { result ≡ passed_by (first_of (shared_checks (is_known s) in_range s.rec)) }
 {
-    let r = s.rec;
-    let standing = r.standing;
     if !in_range {
-        return Verdict::OutOfRange;
+        return Err(Verdict::OutOfRange);
     }
-    if !record_soundness::is_live(standing) {
-        return Verdict::NotLive;
+    if !record_soundness::is_live(s.rec.standing) {
+        return Err(Verdict::NotLive);
     }
-    if !r.statics.monitoring {
-        return Verdict::NotMonitored;
+    if !s.rec.statics.monitoring {
+        return Err(Verdict::NotMonitored);
     }
-    Verdict::Done
+    Ok(())
 }
 
 // "One quote touches one term only."
@@ -40,10 +38,11 @@ fn watched(r: Record, q: Quote, n: NearSeconds) -> Record
     let term = q.term as usize;
     let mut near = r.near;
     near[term] = n;
-    let mut o = r;
-    o.near = near;
-    o.second = q.second;
-    o
+    Record {
+        near,
+        second: q.second,
+        ..r
+    }
 }
 
 // "a quote its two alerts": of the near seconds after it, by the session's own seconds.
@@ -51,14 +50,10 @@ fn alerts_on(r: Record, q: Quote, n: NearSeconds) -> Replied
     requires { n ≡ near_on r q }
     ensures { result ≡ replied_on (the_alerts q) r }
 {
-    let top = n.top;
-    let bottom = n.bottom;
-    let statics = r.statics;
-    let session = r.session;
-    let u = alerts::session::alert_seconds(statics, session);
+    let u = alerts::session::alert_seconds(r.statics, r.session);
     Replied::Alerts(
-        alerts::alert(u, top, q.second),
-        alerts::alert(u, bottom, q.second),
+        alerts::alert(u, n.top, q.second),
+        alerts::alert(u, n.bottom, q.second),
     )
 }
 
@@ -67,45 +62,37 @@ pub fn quoted(s: Slot, q: Quote) -> Effect
     requires { is_known s ≡ true }
     ensures { result ≡ effect_of s (Ask.quoting q) }
 {
-    let count = s.count;
     let r = s.rec;
-    let v = shared_checks(s, inputs::valid_quote(q));
-    if !v.is_done() {
-        return record_answers::refused(count, v);
+    if let Err(v) = shared_checks(s, inputs::valid_quote(q)) {
+        return record_answers::refused(s.count, v);
     }
     if q.second < r.second {
-        return record_answers::refused(count, Verdict::SecondEarlier);
+        return record_answers::refused(s.count, Verdict::SecondEarlier);
     }
     let n = record_writing::near_on(r, q);
-    let rec = watched(r, q, n);
-    let replied = alerts_on(r, q, n);
     Effect {
         at: s.at,
-        rec,
-        replied,
+        rec: watched(r, q, n),
+        replied: alerts_on(r, q, n),
     }
 }
 
-// "move 1, 6, 10, 11, 12"; W-210: "18, .. after 11 and before 12".
+// "move 1, 6, 10, 11, 12"; W-210: "18, .. after 11 and before 12". The side is a number, since one that names no side is
+// refused (6, `moving` of the paper).
 pub fn moved(s: Slot, side: u64) -> Effect
     requires { is_known s ≡ true }
     ensures { result ≡ effect_of s (Ask.moving side) }
 {
-    let count = s.count;
     let r = s.rec;
-    let moves = r.moves;
-    let statics = r.statics;
-    let session = r.session;
-    let v = shared_checks(s, inputs::valid_side(side));
-    if !v.is_done() {
-        return record_answers::refused(count, v);
+    if let Err(v) = shared_checks(s, inputs::valid_side(side)) {
+        return record_answers::refused(s.count, v);
     }
-    if !alerts::session::move_allowed(statics, session) {
-        return record_answers::refused(count, Verdict::NoEveningMove);
+    if !alerts::session::move_allowed(r.statics, r.session) {
+        return record_answers::refused(s.count, Verdict::NoEveningMove);
     }
     let named = Side::from(side);
-    if limits::count_of(named, moves) == Record::MOVES_MOST {
-        return record_answers::refused(count, Verdict::MovesUsedUp);
+    if limits::count_of(named, r.moves) == Record::MOVES_MOST {
+        return record_answers::refused(s.count, Verdict::MovesUsedUp);
     }
     record_answers::written(s.at, record_writing::moved(r, named))
 }
