@@ -23,14 +23,7 @@ const EMPTY: u64 = 0;
 pub fn place_of(t: &[Record], id: u64) -> usize
     ensures { result ≡ place t.now id }
 {
-    let mut i = 0;
-    while i < t.len() {
-        if t[i].id == id {
-            return i;
-        }
-        i = i + 1;
-    }
-    i
+    t.iter().position(|r| r.id == id).unwrap_or(t.len())
 }
 
 // The slot at a place, and the record in it.
@@ -51,16 +44,14 @@ pub fn take_at(t: &[Record], i: usize) -> Slot
 pub fn take(t: &[Record], id: u64) -> Slot
     ensures { result ≡ slot_found t.now id }
 {
-    let i = place_of(t, id);
-    take_at(t, i)
+    take_at(t, place_of(t, id))
 }
 
 // Whether a slot has an id.
 fn is_of(s: Slot, id: u64) -> bool
     ensures { result ≡ is_of s id }
 {
-    let r = s.rec;
-    record_answers::holds(s) & (r.id == id)
+    record_answers::holds(s) & (s.rec.id == id)
 }
 
 // The place of a security, with no walk where it is guessed. The id 0 is no security's, and nothing is searched for it.
@@ -70,8 +61,7 @@ pub fn place_near(t: &[Record], guess: usize, id: u64) -> usize
     if id == EMPTY {
         return t.len();
     }
-    let s = take_at(t, guess);
-    if is_of(s, id) {
+    if is_of(take_at(t, guess), id) {
         return guess;
     }
     place_of(t, id)
@@ -81,11 +71,7 @@ pub fn place_near(t: &[Record], guess: usize, id: u64) -> usize
 pub fn good_at(t: &[Record], at: usize, known: bool) -> bool
     ensures { result ≡ good_at t.now at known }
 {
-    if known {
-        return known;
-    }
-    let s = take_at(t, at);
-    is_good(s)
+    known || is_good(take_at(t, at))
 }
 
 // The record is stored at a place. Past the end nothing is.

@@ -14,22 +14,19 @@ use record_answers::Slot;
 pub fn why(t: &[Record], id: u64, d: Day, rows: &[i64]) -> Why
     ensures { result ≡ why_on t.now id d rows.now }
 {
-    let s = take(t, id);
-    record_reasons::why(s, d, rows)
+    record_reasons::why(take(t, id), d, rows)
 }
 
 // The rule, on the day that is asked for.
 fn asked(s: Slot, a: AskedDay, rows: &[i64]) -> Why
     ensures { result ≡ why_slot s (day_of a) rows.now }
 {
-    let d = interest_terms::day_of(a);
-    record_reasons::why(s, d, rows)
+    record_reasons::why(s, interest_terms::day_of(a), rows)
 }
 
 // Of an evaluation as it is asked for.
 pub fn why_asked(t: &[Record], id: u64, a: AskedDay, rows: &[i64]) -> Why
     ensures { result ≡ why_on t.now id (day_of a) rows.now }
 {
-    let s = take(t, id);
-    asked(s, a, rows)
+    asked(take(t, id), a, rows)
 }

@@ -6,6 +6,6 @@ pub returns-then-known : goal.returns-then-known
 unfolding good_at
 returns-then-known c = rw c.if-known.true
 
-pub returns : goal.returns
+pub returns-else-known : goal.returns-else-known
 unfolding good_at
-returns c = rw (c.is_good.ensures, c.take_at-s.ensures, c.if-known.false)
+returns-else-known c = rw (c.is_good.ensures, c.take_at.ensures, c.if-known.false)

@@ -21,11 +21,11 @@ returns-then-id-eq-EMPTY c =
 
 pub returns-then-is_of : goal.returns-then-is_of
 returns-then-is_of c =
-    let has = ap (λ (s : Slot). is_of s c.args.id) (sym c.take_at-s.ensures) ∙ sym c.is_of.ensures ∙ c.if-is_of.true in
+    let has = ap (λ (s : Slot). is_of s c.args.id) (sym c.take_at.ensures) ∙ sym c.is_of.ensures ∙ c.if-is_of.true in
     guess_taken c.args.t.now c.args.guess c.args.id (fails _ (ne_eqb c.args.id 0 c.if-id-eq-EMPTY.false)) (passes _ has)
 
 pub returns : goal.returns
 returns c =
-    let has = ap (λ (s : Slot). is_of s c.args.id) (sym c.take_at-s.ensures) ∙ sym c.is_of.ensures ∙ c.if-is_of.false in
+    let has = ap (λ (s : Slot). is_of s c.args.id) (sym c.take_at.ensures) ∙ sym c.is_of.ensures ∙ c.if-is_of.false in
     c.place_of.ensures
     ∙ guess_left c.args.t.now c.args.guess c.args.id (fails _ (ne_eqb c.args.id 0 c.if-id-eq-EMPTY.false)) (fails _ has)

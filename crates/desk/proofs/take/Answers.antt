@@ -6,4 +6,4 @@ use Rattle.desk.proofs.take.Goals as goal
 
 pub returns : goal.returns
 returns c =
-    c.take_at.ensures ∙ ap (slot_at c.args.t.now) c.place_of-i.ensures ∙ slot_at_first c.args.t.now c.args.id
+    c.take_at.ensures ∙ ap (slot_at c.args.t.now) c.place_of.ensures ∙ slot_at_first c.args.t.now c.args.id

@@ -2,4 +2,4 @@
 use Rattle.desk.proofs.reasons.asked.Goals as goal
 
 pub returns : goal.returns
-returns c = rw (c.why.ensures, c.day_of-d.ensures)
+returns c = rw (c.why.ensures, c.day_of.ensures)

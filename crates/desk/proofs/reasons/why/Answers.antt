@@ -7,5 +7,5 @@ use Rattle.desk.proofs.reasons.why.Goals as goal
 
 pub returns : goal.returns
 returns c =
-    c.why.ensures ∙ ap (λ (s : Slot). why_slot s c.args.d c.args.rows.now) c.take-s.ensures
+    c.why.ensures ∙ ap (λ (s : Slot). why_slot s c.args.d c.args.rows.now) c.take.ensures
     ∙ why_of_slot c.args.t.now c.args.id c.args.d c.args.rows.now

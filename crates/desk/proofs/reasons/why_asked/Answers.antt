@@ -9,5 +9,5 @@ use Rattle.desk.proofs.reasons.why_asked.Goals as goal
 
 pub returns : goal.returns
 returns c =
-    c.asked.ensures ∙ ap (λ (s : Slot). why_slot s (day_of c.args.a) c.args.rows.now) c.take-s.ensures
+    c.asked.ensures ∙ ap (λ (s : Slot). why_slot s (day_of c.args.a) c.args.rows.now) c.take.ensures
     ∙ why_of_slot c.args.t.now c.args.id (day_of c.args.a) c.args.rows.now
