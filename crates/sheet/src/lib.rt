@@ -23,18 +23,14 @@ pub extern "C" fn nedrubal_days(
 ) -> u64 {
     let mut r = admitted(x);
     let mut sum: u64 = 0;
-    let mut i: u64 = 0;
-    while i < days {
-        let d = day_of(y, i);
+    for later in 0..days {
+        let d = day_of(y, later);
         let w = record_evaluation::worked(first(r), d, rows);
-        let verdict = w.verdict;
-        if !verdict.is_done() {
+        if !w.verdict.is_done() {
             return sum;
         }
-        let made = w.made;
-        r = record_writing::figures::evaluated(r, d, made);
-        sum = std::num::wrapping_add_u64(sum, figure(r));
-        i += 1;
+        r = record_writing::figures::evaluated(r, d, w.made);
+        sum = sum.wrapping_add(figure(r));
     }
     sum
 }

@@ -22,7 +22,7 @@ pub fn day_of(y: &[i64; DAY_NUMBERS], later: u64) -> Day {
         high: y[5],
     };
     Day {
-        day: std::num::wrapping_add_u64(unsigned(y[0]), later),
+        day: unsigned(y[0]).wrapping_add(later),
         b: unsigned(y[1]),
         m: unsigned(y[2]),
         terms: [term; Record::TERMS],
@@ -40,18 +40,15 @@ pub fn first(r: Record) -> Slot {
 
 // The record of a security whose numbers are in range.
 pub fn admitted(x: &[i64; ADMISSION_NUMBERS]) -> Record {
-    let a = text_call::admission_of(x);
-    let empty = first(record_answers::blank());
-    let effect = record_calls::admission::admitted(
+    record_calls::admission::admitted(
         record_answers::absent(Record::SLOTS_MOST),
-        empty,
-        a,
-    );
-    effect.rec
+        first(record_answers::blank()),
+        text_call::admission_of(x),
+    )
+    .rec
 }
 
 // What is added up, so that no figure can be left out: the evaluation, the volatility, and a limit.
 pub fn figure(r: Record) -> u64 {
-    let bands = r.bands;
-    std::num::wrapping_add_u64(r.p1.units, std::num::wrapping_add_u64(r.s, bands[2].upper))
+    r.p1.units.wrapping_add(r.s).wrapping_add(r.bands[2].upper)
 }
