@@ -1,4 +1,5 @@
-// "a level's rate from tentative, m and level". The tentative rate is a bare number: its range, in steps of h and past
+// "a level's rate from tentative, m and level". The level is C's number, since one that is none of the three is refused
+// (6). The tentative rate is a bare number: its range, in steps of h and past
 // S_max (W-208), is its own.
 ghost use Rattle.std.specs.Prelude.{◌≡◌, true, ◌<◌};
 ghost use Rattle.paper.specs.Ranges.{valid_statics};

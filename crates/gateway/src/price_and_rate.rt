@@ -4,23 +4,11 @@ ghost use Rattle.gateway.specs.PriceAndRate.{price_and_rate};
 
 use paper::{Price, Rate};
 
-// Both of them, or that a number is out of range: refusal 6.
-#[derive(Clone, Copy)]
-pub enum PriceAndRate {
-    At(Price, Rate),
-    OutOfRange,
-}
-
-pub fn price_and_rate(p: u64, rate: u64) -> PriceAndRate
+// Both of them, or none where a number is out of range: refusal 6.
+pub fn price_and_rate(p: u64, rate: u64) -> Option<(Price, Rate)>
     ensures { result ≡ price_and_rate p rate }
 {
-    let price = Price::new(p);
-    let rated = Rate::new(rate);
-    match price {
-        None => PriceAndRate::OutOfRange,
-        Some(x) => match rated {
-            None => PriceAndRate::OutOfRange,
-            Some(y) => PriceAndRate::At(x, y),
-        },
-    }
+    let price = Price::new(p)?;
+    let rated = Rate::new(rate)?;
+    Some((price, rated))
 }

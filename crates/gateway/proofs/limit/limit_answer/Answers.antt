@@ -10,7 +10,8 @@ use Rattle.paper.specs.declared.Rate.{Rate}
 use Rattle.paper.specs.declared.Side.{Side}
 use Rattle.paper.specs.declared.Statics.{Statics}
 use Rattle.paper.specs.Ranges.{is_rate, valid_statics}
-use Rattle.gateway.specs.declared.limit.AskedLimit.{AskedLimit}
+use Rattle.std.specs.declared.option.Option.{Option}
+use Rattle.gateway.specs.declared.limit.Grown.{Grown}
 use Rattle.gateway.specs.LimitCalls.{limit_in_range, LimitInputs, limit_figure, limit_call, limit_inputs, limit_high}
 use Rattle.gateway.proofs.Answers.{made_valid, answers_minus_four, answers_minus_six, answers_figure}
 use Rattle.gateway.proofs.InHand.{Held, made_is_held, limit_out}
@@ -21,7 +22,7 @@ valid : (c : After-statics_of-st) → valid_statics c.statics_of-st.result ≡ t
 valid c = made_valid _ c.before.before.valid_given.ensures c.before.if-valid_given.true c.statics_of-st.ensures
 
 -- with a price and a rate in hand
-module _ {p rate : ℕ} {x : Price} {y : Rate} (h : Held p rate x y) (st : Statics) (asked : AskedLimit) where
+module _ {p rate : ℕ} {x : Price} {y : Rate} (h : Held p rate x y) (st : Statics) (asked : Option Grown) where
   -- what the test of what is left gave
   tested : {t : Bool} (side : ℕ) → ((r : ℕ) → is_rate r ≡ true → t ≡ limit_in_range st asked x.units r side)
       → t ≡ limit_in_range st asked p rate side
@@ -45,12 +46,12 @@ returns-in_default c =
 
 pub limit_in_range-requires : goal.limit_in_range-requires
 limit_in_range-requires c =
-    let h = made_is_held c.args.p c.args.rate _ _ (sym c.price_and_rate.ensures ∙ c.in-At.is) in
+    let h = made_is_held c.args.p c.args.rate _ _ (sym c.price_and_rate.ensures ∙ c.in-Some.is) in
     rw h.of_price h.price
 
 pub limit_of-requires : goal.limit_of-requires
 limit_of-requires c =
-    let h = made_is_held c.args.p c.args.rate _ _ (sym c.price_and_rate.ensures ∙ c.in-At.is) in
+    let h = made_is_held c.args.p c.args.rate _ _ (sym c.price_and_rate.ensures ∙ c.in-Some.is) in
     let is = tested h c.statics_of-st.result c.args.asked c.args.side c.limit_in_range.ensures in
     record {
       st_value = valid (goal.at.limit_of-requires c).After-statics_of-st;
@@ -59,13 +60,13 @@ limit_of-requires c =
 
 pub figure-requires : goal.figure-requires
 figure-requires c =
-    let h = made_is_held c.args.p c.args.rate _ _ (sym c.price_and_rate.ensures ∙ c.in-At.is) in
+    let h = made_is_held c.args.p c.args.rate _ _ (sym c.price_and_rate.ensures ∙ c.in-Some.is) in
     let st = c.statics_of-st.result in
     let is = tested h st c.args.asked c.args.side c.limit_in_range.ensures in
     omega (
       arith,
       c.limit_of.ensures,
-      limit_high st c.args.asked c.from.result c.in-At.p c.in-At.rate
+      limit_high st c.args.asked c.from.result c.in-Some.p c.in-Some.rate
           (valid (goal.at.figure-requires c).After-statics_of-st)
           (inputs h st c.args.asked c.args.side (sym is ∙ c.if-limit_in_range.true)),
     )
@@ -73,7 +74,7 @@ figure-requires c =
 pub returns-then-limit_in_range : goal.returns-then-limit_in_range
 unfolding limit_call
 returns-then-limit_in_range c =
-    let h = made_is_held c.args.p c.args.rate _ _ (sym c.price_and_rate.ensures ∙ c.in-At.is) in
+    let h = made_is_held c.args.p c.args.rate _ _ (sym c.price_and_rate.ensures ∙ c.in-Some.is) in
     let st = c.statics_of-st.result in
     rw (← c.statics_of-st.ensures, ← c.from.ensures)
     (answers_figure _ _ _ (search rules) c.valid_given.ensures c.figure.ensures
@@ -83,7 +84,7 @@ returns-then-limit_in_range c =
 pub returns-then-valid_given : goal.returns-then-valid_given
 unfolding limit_call
 returns-then-valid_given c =
-    let h = made_is_held c.args.p c.args.rate _ _ (sym c.price_and_rate.ensures ∙ c.in-At.is) in
+    let h = made_is_held c.args.p c.args.rate _ _ (sym c.price_and_rate.ensures ∙ c.in-Some.is) in
     let st = c.statics_of-st.result in
     rw (← c.statics_of-st.ensures)
     (answers_minus_six _ _ _ (search rules) c.valid_given.ensures c.refusal-then-valid_given.ensures

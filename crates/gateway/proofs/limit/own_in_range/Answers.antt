@@ -5,13 +5,13 @@ use borrow.Author.Rules.{rules}
 use Rattle.gateway.specs.LimitCalls.{own_in_range}
 use Rattle.gateway.proofs.limit.own_in_range.Goals as goal
 
-pub returns-in-Range : goal.returns-in-Range
+pub returns-in-None : goal.returns-in-None
 unfolding own_in_range
-returns-in-Range c = search rules
+returns-in-None c = search rules
 
-pub returns-in-Band : goal.returns-in-Band
+pub returns-in-Some : goal.returns-in-Some
 unfolding own_in_range
-returns-in-Band c =
-    let x = c.in-Band.x in
+returns-in-Some c =
+    let x = c.in-Some.x in
     let fits = to_z-of_z {w = w64} {z = x.repo} (record { sfits = c.struct_told-1.given.1.0.1 }) in
-    rw (c.in-Band.is, rw fits at c.is_within.ensures)
+    rw (c.in-Some.is, rw fits at c.is_within.ensures)

@@ -4,21 +4,22 @@ use Rattle.inputs.proofs.Made.{price_made_lem, price_unmade, rate_made_lem, rate
 use Rattle.gateway.specs.PriceAndRate.{price_and_rate}
 use Rattle.gateway.proofs.price_and_rate.price_and_rate.Goals as goal
 
-pub returns-in-None : goal.returns-in-None
+pub returns-in_err-price : goal.returns-in_err-price
 unfolding price_and_rate
-returns-in-None c = rw (price_unmade _ (sym c.new-price.ensures ∙ c.in-None.is))
+returns-in_err-price c = rw (c.from_residual.ensures, price_unmade _ (sym c.new.ensures ∙ c.in_err-price.was))
 
-pub returns-in-None-rated : goal.returns-in-None-rated
+pub returns-in_err-rated : goal.returns-in_err-rated
 unfolding price_and_rate
-returns-in-None-rated c =
+returns-in_err-rated c =
     rw (
-      (price_made_lem _ _ (sym c.new-price.ensures ∙ c.in-Some.is)).0,
-      rate_unmade _ (sym c.new-rated.ensures ∙ c.in-None-rated.is),
+      c.from_residual-in_err-rated.ensures,
+      (price_made_lem _ _ (sym c.new.ensures ∙ c.in_ok-price.was)).0,
+      rate_unmade _ (sym c.new-2.ensures ∙ c.in_err-rated.was),
     )
 
-pub returns-in-Some-rated : goal.returns-in-Some-rated
+pub returns : goal.returns
 unfolding price_and_rate
-returns-in-Some-rated c =
-    let price = price_made_lem _ _ (sym c.new-price.ensures ∙ c.in-Some.is) in
-    let rate = rate_made_lem _ _ (sym c.new-rated.ensures ∙ c.in-Some-rated.is) in
+returns c =
+    let price = price_made_lem _ _ (sym c.new.ensures ∙ c.in_ok-price.was) in
+    let rate = rate_made_lem _ _ (sym c.new-2.ensures ∙ c.in_ok-rated.was) in
     rw (price.1, rate.1, price.0, rate.0)
