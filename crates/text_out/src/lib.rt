@@ -157,6 +157,8 @@ fn places(x: u64) -> usize
     x.ilog10() as usize + 1
 }
 
+// ---- over a buffer and a length: the lines of a member's end (listen_lines, listen_serve) are appended so
+
 // One byte.
 pub fn put_byte(out: &mut [u8; ROOM], len: usize, b: u8) -> usize
     requires { len + 1 ≤ room }
