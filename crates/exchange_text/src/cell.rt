@@ -140,12 +140,12 @@ pub fn read_cell(text: &[u8], column: Column) -> Option<(i64, &[u8])>
     requires { column.places ≤ 4 }
     ensures { front_of result ≡ cell column text.now }
 {
-    let start = behind_minus(text, column);
-    if let Some((first, behind)) = first_digit(start) {
+    let plain = behind_minus(text, column);
+    if let Some((first, behind)) = first_digit(plain) {
         let (number, rest) = number(behind, column, first)?;
         let size = number as i64;
         return Some((
-            if start.len() < text.len() {
+            if plain.len() < text.len() {
                 -size
             } else {
                 size
@@ -153,7 +153,7 @@ pub fn read_cell(text: &[u8], column: Column) -> Option<(i64, &[u8])>
             rest,
         ));
     }
-    if column.empty && start.len() == text.len() {
+    if column.empty && plain.len() == text.len() {
         return Some((0, text));
     }
     None

@@ -1,0 +1,51 @@
+// What the programs share: a word that they were started with, and what they say where a read or a write failed. No
+// contract can say which words a program is started with.
+#![tactic(auto)]
+
+use std::marker::Model;
+use text_evidence::{Delivered, Written, arg};
+
+// No argument is longer on Linux.
+const WORD_ROOM: usize = 131_072;
+
+// A word that the program was started with.
+#[derive(Drop)]
+pub struct Word {
+    bytes: [u8; WORD_ROOM],
+    length: usize,
+}
+
+impl Model for Word {
+    ghost use Rattle.std.specs.Prelude.{ℕ, List, ◌≤◌, take};
+
+    ghost Value = { List ℕ };
+
+    ghost view = { λ w. take w.length w.bytes };
+
+    ghost invariant = { λ w. w.length ≤ 131072 };
+}
+
+impl Word {
+    ghost use Rattle.std.specs.Prelude.{◌≡◌};
+
+    // The i-th word, the program's name at 0; empty where there is no such word.
+    pub fn at(rt: HostRuntime, i: usize) -> Word {
+        let mut bytes = [0; WORD_ROOM];
+        let length = arg(rt, i, &mut bytes);
+        Word { bytes, length }
+    }
+
+    pub fn as_slice(&self) -> &[u8]
+        ensures { result.now ≡ self.now }
+    {
+        &self.bytes[..self.length]
+    }
+}
+
+// Says on standard error where a read or a write failed.
+pub fn report(rt: HostRuntime, program: &str, read: Delivered, told: Written) {
+    if read.has_failed() || !told.took_all() {
+        let failed = if told.took_all() { "read" } else { "write" };
+        let _ = eprintln!(rt; "{program}: could not {failed}");
+    }
+}
