@@ -16,6 +16,7 @@ use Rattle.listen_lines.specs.Lines.{unknown_word, refused_word, word_line, fiel
 use Rattle.listen_lines.specs.Lines.{line_most}
 use Rattle.paper.specs.declared.Verdict.{Verdict}
 use Rattle.paper_messages.specs.declared.Heard.{Heard}
+use Rattle.paper_messages.specs.Messages.{Hearing}
 use Rattle.std.specs.Prelude.{Ok, Err, Some, None}
 
 -- a word, numbers and the end of the line
@@ -51,26 +52,26 @@ unfolding numbers_in
 other_line_written m h p = rw (ne_eqb m.kind end_message_kind h) p
 
 -- ---- the line of what is heard
-module _ (h : Heard) (no place : ℕ) {b c : List ℕ} {n e : ℕ} where
-  pub refused_line_written : (no ≡ 0 → ⊥) → Wrote b n c e (word_line refused_word (pos no ∷ pos place ∷ [])) line_most
-      → Wrote b n c e (line_of place no (Ok h)) line_most
-  unfolding line_of
-  refused_line_written z p = rw (ne_eqb no 0 z) p
-
-  pub known_line_written : (m : Message) → no ≡ 0 → h.message ≡ Some m
-      → Wrote b n c e (word_line (kind_word m.kind) (numbers_in m)) line_most
-      → Wrote b n c e (line_of place no (Ok h)) line_most
-  unfolding line_of
-  known_line_written m z is p = rw (eq-eqb no 0 z, is) p
-
-  pub unknown_line_written : no ≡ 0 → h.message ≡ None
-      → Wrote b n c e (word_line unknown_word (pos h.kind ∷ pos h.length ∷ [])) line_most
-      → Wrote b n c e (line_of place no (Ok h)) line_most
-  unfolding line_of
-  unknown_line_written z is p = rw (eq-eqb no 0 z, is) p
-
-pub refusal_line_written : (v : Verdict) (number place : ℕ) {b c : List ℕ} {n e : ℕ}
+pub refused_line_written : (h : Hearing) (number place : ℕ) {b c : List ℕ} {n e : ℕ} → (number ≡ 0 → ⊥)
     → Wrote b n c e (word_line refused_word (pos number ∷ pos place ∷ [])) line_most
-    → Wrote b n c e (line_of place number (Err v)) line_most
+    → Wrote b n c e (line_of place number h) line_most
 unfolding line_of
-refusal_line_written v number place p = p
+refused_line_written h number place z p = rw (ne_eqb number 0 z) p
+
+module _ (number place : ℕ) (z : number ≡ 0) {b c : List ℕ} {n e : ℕ} where
+  pub known_line_written : (h : Heard) (m : Message) → h.message ≡ Some m
+      → Wrote b n c e (word_line (kind_word m.kind) (numbers_in m)) line_most
+      → Wrote b n c e (line_of place number (Ok h)) line_most
+  unfolding line_of
+  known_line_written h m is p = rw (eq-eqb number 0 z, is) p
+
+  pub unknown_line_written : (h : Heard) → h.message ≡ None
+      → Wrote b n c e (word_line unknown_word (pos h.kind ∷ pos h.length ∷ [])) line_most
+      → Wrote b n c e (line_of place number (Ok h)) line_most
+  unfolding line_of
+  unknown_line_written h is p = rw (eq-eqb number 0 z, is) p
+
+  pub no_line_written : (v : Verdict) → Wrote b n c e (word_line unknown_word (pos 0 ∷ pos 0 ∷ [])) line_most
+      → Wrote b n c e (line_of place number (Err v)) line_most
+  unfolding line_of
+  no_line_written v p = rw (eq-eqb number 0 z) p

@@ -1,6 +1,6 @@
 -- W-212 and docs/BROADCAST.md, "What `listen` prints": the line of what is heard at a place of the input, and the line
 -- of a stream that has no end.
-use Rattle.std.specs.Prelude.{◌&&◌, is_ok, List, [], ◌∷◌, ◌++◌, ℕ, ◌+◌, eqb, ℤ, pos, length, take}
+use Rattle.std.specs.Prelude.{List, [], ◌∷◌, ◌++◌, ℕ, ◌+◌, eqb, ℤ, pos, length, take}
 use Rattle.paper.specs.Lists.{pick}
 use Rattle.paper_messages.specs.declared.Message.{Message}
 use Rattle.paper_messages.specs.Fields.{end_message_kind, fields_of, kind_word}
@@ -37,7 +37,7 @@ numbers_in m = pick (eqb m.kind end_message_kind) (pos (count_said m) ∷ pos (s
 -- numbers, `unknown KIND LENGTH`, or `refused NUMBER PLACE`
 unfoldable pub line_of : (place number : ℕ) → Hearing → List ℕ
 line_of place number h =
-    pick (is_ok h && eqb number 0)
+    pick (eqb number 0)
     (pick (known_heard h) (word_line (kind_word (message_heard h).kind) (numbers_in (message_heard h)))
     (word_line unknown_word (pos (kind_heard h) ∷ pos (length_heard h) ∷ [])))
     (word_line refused_word (pos number ∷ pos place ∷ []))

@@ -95,12 +95,16 @@ pub fn say_heard(
     requires { len + line_most ≤ room }
     ensures { Wrote out.old len out.new result (line_of place no heard) line_most }
 {
+    if no != 0 {
+        return say_two(out, len, b"refused", no, place);
+    }
     match heard {
-        Ok(h) if no == 0 => match h.message {
+        Ok(h) => match h.message {
             Some(m) => say_message(out, len, m),
             None => say_two(out, len, b"unknown", h.kind, h.length),
         },
-        _ => say_two(out, len, b"refused", no, place),
+        // A refusal has a number, and is told above; `line_of` says a kind and a length of 0 of one that had none.
+        Err(_) => say_two(out, len, b"unknown", 0, 0),
     }
 }
 

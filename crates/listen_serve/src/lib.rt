@@ -75,21 +75,14 @@ fn more(stdin: Stdin, buf: &mut [u8], s: Listening) -> Listening
     ensures { (Delivers buf.old s buf.new result) × (Stands buf.new result)
         × (result.waiting ≡ s.waiting) × (result.told ≡ s.told) }
 {
-    let at = s.at;
-    let len = s.len;
-    let feed = s.feed;
-    let told = s.told;
-    let have = shift(buf, at, len);
+    let have = shift(buf, s.at, s.len);
     let read = fill(stdin, buf, have, s.read);
     let end = have + read.came();
     Listening {
         at: 0,
         len: end,
-        waiting: s.waiting,
-        over: s.over,
-        feed,
         read,
-        told,
+        ..s
     }
 }
 
@@ -101,17 +94,12 @@ fn write_out(stdout: Stdout, out: &[u8], s: Listening, over: bool) -> Listening
     ensures { WritesOut s over result }
 {
     let n = s.waiting;
-    let feed = s.feed;
-    let read = s.read;
     let told = hand(stdout, out, n, s.told);
     Listening {
-        at: s.at,
-        len: s.len,
         waiting: 0,
         over: over | !told.took_all(),
-        feed,
-        read,
         told,
+        ..s
     }
 }
 
@@ -128,16 +116,11 @@ fn place_of(s: Listening) -> u64
 fn gathered(s: Listening, waiting: usize, at: usize, feed: Feed) -> Listening
     ensures { result ≡ gathered s waiting at feed }
 {
-    let read = s.read;
-    let told = s.told;
     Listening {
         at,
-        len: s.len,
         waiting,
-        over: s.over,
         feed,
-        read,
-        told,
+        ..s
     }
 }
 
@@ -260,18 +243,7 @@ fn used_up(s: Listening) -> Listening
       told = s.told;
     } }
 {
-    let feed = s.feed;
-    let read = s.read;
-    let told = s.told;
-    Listening {
-        at: s.at,
-        len: s.len,
-        waiting: s.waiting,
-        over: true,
-        feed,
-        read,
-        told,
-    }
+    Listening { over: true, ..s }
 }
 
 // Reads on, where a message is not whole yet. The lines that wait are written first, so that whoever listens sees them
