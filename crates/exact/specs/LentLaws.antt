@@ -1,13 +1,16 @@
 -- Laws of a lent slice that is read in parts of one width: a walk over it by place.
-use Rattle.std.specs.Prelude.{◌≡◌, ◌⊎◌, List, [], ◌∷◌, ℤ}
-use Rattle.std.proofs.Common.{◌∙◌, inl, inr, div-add-mod', mul-le-mul_right}
+use Rattle.std.specs.Prelude.{◌≡◌, Bool, true, false, not, ◌⊎◌, List, [], ◌∷◌, ℤ}
+use Rattle.std.proofs.Common.{sym, ◌∙◌, inl, inr, div-add-mod', mul-le-mul_right}
 use Rattle.std.proofs.Math.Path.{ap}
 use Prim.Native.Nat.{ℕ, suc, ◌+◌, ◌-◌, ◌*◌, ◌/◌, ◌%◌, ◌≤◌, ◌<◌}
 use native.Mathlib.Omega.{arith}
+use Rattle.std.proofs.lemmas.Bool.{not-true, not-false}
 use Rattle.std.proofs.Math.ListN.{length}
+use Rattle.paper.specs.Lists.{every}
 use Rattle.paper.specs.Ranges.{parts_from}
 use Rattle.paper.proofs.Logic.{le_or_lt}
 use Rattle.paper.proofs.Roundings.{quotient_low, quotient_high, quotient_unique}
+use Rattle.exact.specs.EveryLaws.{every_in, every_out, every_nil}
 
 -- ---- a place: where a part begins, or the end
 
@@ -67,3 +70,47 @@ module _ {A : Type 0} (read : List ℤ → ℕ → A) (width : ℕ) (numbers : L
       let zero_of : 0 ≡ 0 / width = quotient_unique 0 width 0 w (omega arith) (omega arith) in
       let none : (length numbers - at) / width ≡ 0 = ap (λ (n : ℕ). n / width) nothing ∙ omega arith in
       ap (parts_from read width numbers at) none
+
+-- ---- whether every part passes: the one walk of every loop that judges part after part
+
+-- what the walk keeps at a place: the parts that are left decide for all
+pub record Judging {A : Type 0} (valid : A → Bool) (read : List ℤ → ℕ → A) (width : ℕ) (numbers : List ℤ)
+    (all : List A) (at : ℕ) : Type 0 where
+  pub place : Place width numbers at
+  pub decides : every valid (parts_left read width numbers at) ≡ every valid all
+
+-- its turn at a place before the end: there is a whole part, and by what the test says of it the answer is no, or the
+-- walk goes on behind it
+pub record Turn {A : Type 0} (valid : A → Bool) (read : List ℤ → ℕ → A) (width : ℕ) (numbers : List ℤ) (all : List A)
+    (at : ℕ) : Type 0 where
+  pub room : at + width ≤ length numbers
+  pub fails : (says : Bool) → says ≡ valid (read numbers at) → not says ≡ true → false ≡ every valid all
+  pub goes_on : (says : Bool) → says ≡ valid (read numbers at) → not says ≡ false
+      → Judging valid read width numbers all (at + width)
+
+module _ {A : Type 0} (valid : A → Bool) (read : List ℤ → ℕ → A) (width : ℕ) (numbers : List ℤ) (all : List A) where
+  pub judging_first : parts_left read width numbers 0 ≡ all → Judging valid read width numbers all 0
+  judging_first e = record { place = place_first width numbers; decides = ap (every valid) e }
+
+  module _ (at : ℕ) (w : 0 < width) (j : Judging valid read width numbers all at) where
+    pub judging_turn : length numbers % width ≡ 0 → at < length numbers → Turn valid read width numbers all at
+    judging_turn whole before =
+        record {
+          room = room;
+          fails = λ says is no. sym (every_out valid here (sym is ∙ not-true says no)) ∙ j.decides;
+          goes_on =
+              λ says is yes.
+              record {
+                place = place_next width numbers at j.place room;
+                decides = sym (every_in valid here (sym is ∙ not-false says yes)) ∙ j.decides;
+              };
+        }
+      where
+        room : at + width ≤ length numbers
+        room = place_room width numbers at whole j.place before
+
+        here : parts_left read width numbers at ≡ read numbers at ∷ parts_left read width numbers (at + width)
+        here = left_here read width numbers at w room
+
+    pub judging_end : length numbers ≤ at → true ≡ every valid all
+    judging_end h = sym (every_nil valid (left_end read width numbers at w h)) ∙ j.decides

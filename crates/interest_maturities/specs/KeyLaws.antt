@@ -77,7 +77,7 @@ none_of_short numbers h =
 
 -- ---- how many there are
 
-keys_count : (numbers : List ℤ) (at count : ℕ) → length (parts_from key_at key_numbers numbers at count) ≡ count
+pub keys_count : (numbers : List ℤ) (at count : ℕ) → length (parts_from key_at key_numbers numbers at count) ≡ count
 unfolding parts_from
 keys_count numbers at zero = refl
 keys_count numbers at (suc count) = ap suc (keys_count numbers (at + key_numbers) count)
