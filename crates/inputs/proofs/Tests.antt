@@ -1,16 +1,10 @@
--- Laws of the tests: two and three of a kind, and a day in two parts.
+-- Laws of the tests: two of a kind, and a day in two parts.
 use mathlib.Core.Path.{◌≡◌, refl}
 use mathlib.Core.Bool.{Bool, true, false, ◌&&◌, and-false}
 use mathlib.Core.List.{List}
 use lib.IntN.{ℤ}
 use Rattle.paper.specs.declared.Day.{Day}
 use Rattle.paper.specs.Ranges.{valid_day, valid_rows, valid_day_numbers}
-
--- ---- three of a kind
-
--- three tests that are those of the definition
-pub three_tests_same : {a b c x y z : Bool} → a ≡ x → b ≡ y → c ≡ z → (a && b && c) ≡ (x && y && z)
-three_tests_same f s t = rw (f, s, t)
 
 -- ---- two of a kind
 

@@ -53,7 +53,7 @@ pub fn valid_term(x: Term) -> bool
 pub fn valid_terms(terms: [Term; Record::TERMS]) -> bool
     ensures { result ≡ all_three (λ k. valid_term (term_at terms k)) }
 {
-    valid_term(terms[0]) & valid_term(terms[1]) & valid_term(terms[2])
+    terms.iter().all(|x| valid_term(*x))
 }
 
 // What a day gives by value. Its rows are lent, and judged apart.

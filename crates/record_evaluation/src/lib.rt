@@ -38,7 +38,7 @@ fn used_by(r: Record) -> External
 fn in_order(bands: [Limits; Record::TERMS]) -> bool
     ensures { result ≡ all_three (λ k. not (crossed (get_or bands k no_limits))) }
 {
-    !limits::is_crossed(bands[0]) & !limits::is_crossed(bands[1]) & !limits::is_crossed(bands[2])
+    bands.iter().all(|band| !limits::is_crossed(*band))
 }
 
 // What an evaluation comes to before it is answered: the first number that applies, or done, and where that is done or
