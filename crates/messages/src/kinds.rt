@@ -397,12 +397,10 @@ fn is_in(field: Field, value: i64) -> bool
 fn in_ranges(places: [Field; Message::PLACES], values: [i64; Message::PLACES]) -> bool
     ensures { result ≡ in_ranges places values }
 {
-    let mut i = 0;
-    while i < Message::PLACES {
+    for i in 0..Message::PLACES {
         if !is_in(places[i], values[i]) {
             return false;
         }
-        i += 1;
     }
     true
 }

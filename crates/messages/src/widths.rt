@@ -42,12 +42,10 @@ pub fn put_number(buf: &mut [u8], at: usize, width: usize, number: u64)
     requires { at + width ≤ length buf.old }
     ensures { buf.new ≡ sets buf.old at (bytes_of width number) }
 {
-    let mut i = 0;
     let mut rest = number;
-    while i < width {
+    for i in 0..width {
         buf[at + i] = (rest % IN_BYTE) as u8;
-        rest = rest / IN_BYTE;
-        i += 1;
+        rest /= IN_BYTE;
     }
 }
 
@@ -110,14 +108,12 @@ pub fn put_fields(
     requires { (Room at places buf.old) × (Holding places values) }
     ensures { buf.new ≡ sets buf.old at (body_of places values) }
 {
-    let mut i = 0;
     let mut to = at;
-    while i < Message::PLACES {
+    for i in 0..Message::PLACES {
         let field = places[i];
         let width = field.width;
         put_number(buf, to, width, complement(width, values[i]));
         to += width;
-        i += 1;
     }
 }
 
@@ -127,14 +123,12 @@ pub fn get_fields(buf: &[u8], at: usize, places: [Field; Message::PLACES]) -> [i
     ensures { result ≡ values_at places (drop at buf.now) }
 {
     let mut values: [i64; Message::PLACES] = [0; Message::PLACES];
-    let mut i = 0;
     let mut from = at;
-    while i < Message::PLACES {
+    for i in 0..Message::PLACES {
         let field = places[i];
         let width = field.width;
         values[i] = signed_of(width, get_number(buf, from, width));
         from += width;
-        i += 1;
     }
     values
 }
