@@ -32,6 +32,7 @@ pub fn flows_valid(numbers: &[i64]) -> bool
 // ---- a cash flow
 
 // The cash flow that its numbers are. They are the paper's where they are in range.
+#[tactic(auto, unfolding(paper_bonds::specs::Bonds::flow_of, paper_bonds::specs::Bonds::flow_at))]
 fn flow_of(numbers: &[i64; FLOW_NUMBERS]) -> Flow
     ensures { result ≡ flow_of (flow_at numbers.now 0) }
 {

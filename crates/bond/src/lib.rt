@@ -25,6 +25,7 @@ use paper_bonds::{Bond, BondAnswer, BondLimits, BondStatics};
 
 // The rows of the table of statics that a bond has: no rule of a bond reads the others, which stay at the least of
 // their ranges.
+#[tactic(auto, unfolding(paper_bonds::specs::Bonds::bond_given))]
 fn given_of(g: BondStatics) -> GivenStatics
     ensures { result ≡ bond_given g }
 {
@@ -150,6 +151,7 @@ fn some_crossed(limits: &[BondLimits]) -> bool
 // ---- the answer
 
 // "A refusal returns its number with all figures 0."
+#[tactic(auto, unfolding(paper_bonds::specs::Bonds::refused_bond))]
 pub fn refused(verdict: Verdict) -> BondAnswer
     ensures { result ≡ refused_bond verdict }
 {

@@ -151,6 +151,7 @@ pub fn limits_of(b: BondScale, st: Statics, p: Price, s1: Rate, x: Term) -> Bond
 }
 
 // 9: "crossed by the same test", on the book or off it.
+#[tactic(auto, unfolding(paper_bonds::specs::Bonds::is_crossed))]
 pub fn is_crossed(x: BondLimits) -> bool
     ensures { result ≡ is_crossed x }
 {

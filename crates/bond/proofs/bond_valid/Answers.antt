@@ -2,7 +2,7 @@
 -- fails.
 use mathlib.Core.Path.{◌≡◌, sym, ◌∙◌}
 use mathlib.Core.Bool.{true}
-use mir.Facts.{to_z-of_z}
+use Rattle.std.proofs.Common.{rules}
 use Rattle.paper.specs.Ranges.{valid_given}
 use Rattle.inputs.proofs.Facts.{statics_step_positive, given_statics_valid}
 use Rattle.paper_bonds.specs.Bonds.{bond_given, bond_statics, valid_bond}
@@ -27,12 +27,12 @@ unfolding valid_bond
 returns-then-valid_given c =
     rw (
       c.is_within.ensures,
-      to_z-of_z (record { sfits = c.struct_told-1.given.1.1.1.1.1.1.1.1.1.1.0.1 }),
       c.valid_terms.ensures,
       c.terms_of.ensures,
       c.valid_numbers.ensures,
       given_passed (goal.at.returns-then-valid_given c).Then-valid_given,
     )
+    (search rules)
 
 pub returns : goal.returns
 unfolding valid_bond
