@@ -668,7 +668,8 @@ pub struct MaturityFigures {
     pub down: u64, // bp, 0 to 211,977
 }
 
-// A pair of terms worked out: the limits of its repo band, where the verdict is done.
+// A pair of terms worked out: the limits of its repo band, where the verdict is done. The limits stand beside the
+// verdict, in no `Result`: a refusal has both 0, as `interest_zero` of `Demand1Beside` (demands/specs) says.
 #[derive(Clone, Copy)]
 pub struct WorkedBand {
     pub verdict: Verdict,

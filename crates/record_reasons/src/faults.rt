@@ -35,7 +35,7 @@ fn row_at_fault(rows: &[i64], at: usize, which: RowFault) -> bool
     }
 }
 
-// The first row at fault: one walk for the three faults, since no function can be handed to another.
+// The first row at fault, by one walk for the three faults.
 fn first_row(rows: &[i64], which: RowFault) -> Option<Fault>
     requires row_numbers_len { length rows.now % row_numbers ≡ 0 }
     requires rows_value { every (judgeable which) (rows_of rows.now) ≡ true }
