@@ -150,6 +150,7 @@ pub fn rates_of(st: Statics, m: u64, tentative: u64) -> [Rate; Record::LEVELS]
 {
     let squares = squares_of(st, m, tentative);
     let guess = guess_of(st, m, tentative);
+    // `[1, 2, 3].map(..)` was not proved: that what it captures meets `Sought` is to be shown of each call.
     [
         Rate::of(rate_near(st.h, st.rh1, st.smax, level_of(st, 1), squares, guess)),
         Rate::of(rate_near(st.h, st.rh1, st.smax, level_of(st, 2), squares, guess)),
