@@ -1,5 +1,4 @@
--- The laws of text_answer, a file each; other crates may cite the public one.
-pub mod Verdicts
+-- The laws of text_answer, a file each; its own proofs alone cite them.
 mod Maturities
 mod Told
 mod ReasonWords
