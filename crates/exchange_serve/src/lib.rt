@@ -58,7 +58,8 @@ pub struct Taken {
     pub read: Delivered,
 }
 
-// Reads standard input until it ends, the buffer is full or a read fails.
+// Reads standard input until it ends, the buffer is full or a read fails. No index is counted: `len` grows by what each
+// read brought.
 pub fn take_in(stdin: Stdin, buf: &mut [u8]) -> Taken
     ensures { TakesIn buf.old buf.new result }
 {

@@ -708,7 +708,8 @@ pub struct AskedTerm {
     pub band: RepoBand,
 }
 
-// A day as it is asked for, with either kind of band in each of its terms; its numbers are those of `Day`.
+// A day as it is asked for, with either kind of band in each of its terms; its numbers are those of `Day`. Each term
+// has a name, since it has words of its own in a line (K0, K1, K2: `asked_of` of text_protocol).
 #[derive(Clone, Copy)]
 pub struct AskedDay {
     pub day: u64,

@@ -26,7 +26,8 @@ pub struct BondStatics {
     pub ewma: u64, // 0 or 1
 }
 
-// A bond as it is given, beside its cash flows.
+// A bond as it is given, beside its cash flows. Each term has a name, since it has words of its own in a line (K0, K1,
+// K2: `bond_of` of text_protocol).
 #[derive(Clone, Copy)]
 pub struct Bond {
     pub m: u64, // non-trading days ahead, 0 to 10

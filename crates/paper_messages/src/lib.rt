@@ -13,7 +13,8 @@ pub struct Field {
 }
 
 // A message: its kind, 1 to KINDS, and its fields in the order of docs/BROADCAST.md. Past the kind's last field stand
-// zeros.
+// zeros. The kind is a number and no enum: the writer refuses one that it doesn't know by 23 (`writes_are` of
+// PinnedMessages), and the reader hears whatever two bytes give.
 #[derive(Clone, Copy)]
 pub struct Message {
     pub kind: u64,

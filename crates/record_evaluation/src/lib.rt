@@ -43,7 +43,7 @@ fn in_order(bands: [Limits; Record::TERMS]) -> bool
 
 // What an evaluation comes to before it is answered: the first number that applies, or done, and where that is done or
 // 9 what was made of the record, with the figures that its price was chosen from; else zeros. The record is not written
-// yet, since of a refusal and of why nothing is.
+// yet, since of a refusal and of why nothing is. A 9 has all the values of what is done, so this is no `Result`.
 #[derive(Clone, Copy)]
 pub struct Working {
     pub verdict: Verdict,

@@ -81,7 +81,7 @@ fn tentative_reason(h: u64, wait: u64, t: u64, old: Tentative) -> TentativeReaso
 }
 
 // Whether the rate of a level is the least multiple of h that covers the requirement, which S_max covers: it covers it,
-// and a step below does not.
+// and a step below does not. A level is its number, as the definitions (`level_rate`, `level_reason`) have it.
 fn is_least(st: Statics, level: u64, m: u64, tentative: u64, rate: Rate) -> bool
     requires st_value { valid_statics st ≡ true }
     requires m_le_ahead_most { (m ≤ ahead_most) × (tentative ≤ tentative_bound) }

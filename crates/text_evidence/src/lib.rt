@@ -139,7 +139,7 @@ impl Written {
 }
 
 // Hands the first n bytes to standard output, and says how many of them were taken: all of them, unless a write took
-// nothing or failed. A short write is tried again.
+// nothing or failed. A short write is tried again: no index is counted, since `taken` grows by what each write took.
 fn write(stdout: Stdout, out: &[u8], n: usize) -> usize
     requires { n ≤ length out.now }
     ensures { result ≤ n }
