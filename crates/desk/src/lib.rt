@@ -1,6 +1,6 @@
 // The calls over the table, a lent row of records. Only `place_of`, `take_at` and `put` touch the row. Each call takes
 // the slot, asks its rule by value, stores what the rule says and makes the answer of it, with no branch of its own: a
-// refusal is stored past the end, where nothing is.
+// refusal is stored past the end, where nothing is. A slot goes by its place, as the table after a call does (`set`).
 #![tactic(auto)]
 
 pub mod reasons; // the public calls that say why

@@ -4,6 +4,7 @@ ghost use Rattle.paper.specs.Verdicts.{number_of};
 
 use paper::Verdict;
 
+// No `From` makes an i64 of a u64: that it fits is what is required.
 pub fn figure(n: u64) -> i64
     requires { n < 2 ^ 63 }
     ensures { result ≡ pos n }
