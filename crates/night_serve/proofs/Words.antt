@@ -17,10 +17,9 @@ use Rattle.text_protocol.specs.declared.Pairs.{Pairs}
 use Rattle.text_bytes.proofs.Spelling.{impossible}
 use Rattle.text_protocol.specs.Names.{evaluate_kind, evaluate_names, bond_names, place_of, code}
 use Rattle.text_protocol.specs.Line.{Reading, read, spoilt, item_of, has_terms, place_in, pair_fits, with_pair}
-use Rattle.text_line.specs.declared.Taken.{Taken}
-use Rattle.text_line.specs.ReadLine.{reading_of}
+use Rattle.night_serve.specs.declared.Taken.{Taken}
 use Rattle.night_protocol.specs.Sheet.{day_numbers, words_most, may_stand, asking, asked_on, asked_from, asked_by}
-use Rattle.night_serve.specs.Serving.{start_taken, TakesWord, asked_taken, Asks}
+use Rattle.night_serve.specs.Serving.{start_taken, reading_of, TakesWord, asked_taken, Asks}
 
 -- ---- tests
 

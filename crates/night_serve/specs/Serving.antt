@@ -5,9 +5,8 @@ use Rattle.paper.specs.Ranges.{unsigned}
 use Rattle.text_out.specs.Places.{number_bytes, next_bytes, next_signed_bytes}
 use Rattle.text_out.specs.Sizes.{word_bytes, rows_bytes}
 use Rattle.text_protocol.specs.declared.Pairs.{Pairs}
-use Rattle.text_protocol.specs.Line.{no_pairs, item_of}
-use Rattle.text_line.specs.declared.Taken.{Taken}
-use Rattle.text_line.specs.ReadLine.{reading_of}
+use Rattle.text_protocol.specs.Line.{no_pairs, item_of, Reading, read, spoilt}
+use Rattle.night_serve.specs.declared.Taken.{Taken}
 use Rattle.text_protocol.specs.declared.Item.{Item}
 use Rattle.night_protocol.specs.Night.{Night, good, bad, night_most, securities_most, firsts_behind, joined, night_of}
 use Rattle.night_protocol.specs.Sheet.{day_numbers, asked_most, words_most, asking, asked_on, asked_by, evaluate_all}
@@ -99,6 +98,10 @@ start_taken = record { ok = true; count = 0; pairs = no_pairs }
 pub record OfWord (r : Item) : Type 0 where
   pub word : List ℕ
   pub is : r ≡ item_of word
+
+-- what is read
+unfoldable pub reading_of : Taken → List ℤ → Reading
+reading_of r xs = pick r.ok (read (take r.count xs) r.pairs) spoilt
 
 -- A WORD MORE: the numbers that are read are the first of xs
 pub record TakesWord (xs : List ℤ) (a : Taken) (w : Item) (xs' : List ℤ) (r : Taken) : Type 0 where

@@ -24,7 +24,7 @@ use paper::Row;
 use std::io::{Stdin, Stdout};
 use std::marker::Model;
 use text_evidence::{Delivered, Written, hand, unwritten};
-use text_line::{Taken, pair_fits, with_pair};
+use text_line::{pair_fits, with_pair};
 use text_out::Text;
 use text_protocol::{CallKind, Item, Pairs};
 
@@ -211,6 +211,14 @@ fn print_all(
 
 // ---- the words
 
+// What is read of the words: how many numbers, and which of them are pairs; or that something asks for nothing.
+#[derive(Clone, Copy)]
+pub struct Taken {
+    pub ok: bool,
+    pub count: usize,
+    pub pairs: Pairs,
+}
+
 // Before the first word.
 pub fn no_words() -> Taken
     ensures { result ≡ start_taken }
@@ -284,13 +292,13 @@ pub fn take_word(xs: &mut [i64], a: Taken, w: Item) -> Taken
             spoilt(a)
         }
         Item::Two(ym, yn) => {
-            if pair_fits(CallKind::EVALUATE, n + 1) {
+            if pair_fits(CallKind::Evaluate, n + 1) {
                 keep(xs, n, ym);
                 keep(xs, n + 1, yn);
                 return Taken {
                     ok: true,
                     count: n + 2,
-                    pairs: with_pair(CallKind::EVALUATE, n + 1, pairs),
+                    pairs: with_pair(CallKind::Evaluate, n + 1, pairs),
                 };
             }
             spoilt(a)

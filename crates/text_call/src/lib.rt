@@ -9,6 +9,7 @@ ghost use Rattle.text_protocol.specs.Calls.{admission_of, quote_of, bits_of, flo
 ghost use Rattle.text_protocol.specs.Calls.{band_of, asked_of, notice_call, desk_call, call_asked};
 ghost use Rattle.text_call.specs.Terms.{term_at_place};
 ghost use Rattle.text_protocol.specs.Names.{evaluate_count};
+ghost use Rattle.text_protocol.specs.Kinds.{kind_number};
 
 use crate::kept::found;
 use inputs::{given_of, number_at};
@@ -33,10 +34,7 @@ const INFINITY_BITS: u64 = 9_218_868_437_227_405_312;
 pub fn signed_at(zs: &[i64], i: usize) -> i64
     ensures { result ≡ get_or zs.now i (pos 0) }
 {
-    if i < zs.len() {
-        return zs[i];
-    }
-    0
+    zs.get(i).copied().unwrap_or(0)
 }
 
 // ---- an admission
@@ -196,43 +194,39 @@ fn notice_of(id: u64, side: u64, x: f64) -> AskedCall
     AskedCall::About(id, AskedAbout::Move(side))
 }
 
-// The call of the desk that a line of a kind is, with what it is given.
-pub fn call_of(zs: &[i64], kind: u64, p: Pairs, k: Kept) -> AskedCall
-    ensures { call_asked result (drop evaluate_count zs.now) ≡ desk_call k kind zs.now p }
+// The call of the desk that a line of a kind is, with what it is given. An interest line and a bond are none, and are not
+// asked for here.
+pub fn call_of(zs: &[i64], kind: CallKind, p: Pairs, k: Kept) -> AskedCall
+    ensures { call_asked result (drop evaluate_count zs.now) ≡ desk_call k (kind_number kind) zs.now p }
 {
-    if kind == CallKind::ADMIT {
-        return AskedCall::Admit(admission_of(zs));
+    match kind {
+        CallKind::Admit => AskedCall::Admit(admission_of(zs)),
+        CallKind::Evaluate => {
+            let id = number_at(zs, evaluate_place::ID);
+            AskedCall::About(id, AskedAbout::Evaluate(asked_of(k, p, zs)))
+        }
+        CallKind::Quote => {
+            let id = number_at(zs, quote_place::ID);
+            AskedCall::About(id, AskedAbout::Quote(quote_of(zs)))
+        }
+        CallKind::Move => {
+            let id = number_at(zs, move_place::ID);
+            AskedCall::About(id, AskedAbout::Move(number_at(zs, move_place::SIDE)))
+        }
+        CallKind::Read => AskedCall::About(number_at(zs, id_place::ID), AskedAbout::Read),
+        CallKind::Open => AskedCall::About(number_at(zs, id_place::ID), AskedAbout::Open),
+        CallKind::Outside => {
+            let id = number_at(zs, outside_place::ID);
+            AskedCall::About(id, AskedAbout::Receive(outside_of(zs)))
+        }
+        CallKind::Notice => {
+            let id = number_at(zs, notice_place::ID);
+            let side = number_at(zs, notice_place::SIDE);
+            notice_of(id, side, float_at(zs, notice_place::BITS))
+        }
+        CallKind::Withdraw | CallKind::Interest | CallKind::Bond => {
+            let id = number_at(zs, id_place::ID);
+            AskedCall::About(id, AskedAbout::Notify(Notice::Withdrawal))
+        }
     }
-    if kind == CallKind::EVALUATE {
-        let id = number_at(zs, evaluate_place::ID);
-        return AskedCall::About(id, AskedAbout::Evaluate(asked_of(k, p, zs)));
-    }
-    if kind == CallKind::QUOTE {
-        let id = number_at(zs, quote_place::ID);
-        return AskedCall::About(id, AskedAbout::Quote(quote_of(zs)));
-    }
-    if kind == CallKind::MOVE {
-        let id = number_at(zs, move_place::ID);
-        return AskedCall::About(id, AskedAbout::Move(number_at(zs, move_place::SIDE)));
-    }
-    if kind == CallKind::READ {
-        return AskedCall::About(number_at(zs, id_place::ID), AskedAbout::Read);
-    }
-    if kind == CallKind::OPEN {
-        return AskedCall::About(number_at(zs, id_place::ID), AskedAbout::Open);
-    }
-    if kind == CallKind::OUTSIDE {
-        let id = number_at(zs, outside_place::ID);
-        return AskedCall::About(id, AskedAbout::Receive(outside_of(zs)));
-    }
-    if kind == CallKind::NOTICE {
-        let id = number_at(zs, notice_place::ID);
-        return notice_of(
-            id,
-            number_at(zs, notice_place::SIDE),
-            float_at(zs, notice_place::BITS),
-        );
-    }
-    let id = number_at(zs, id_place::ID);
-    AskedCall::About(id, AskedAbout::Notify(Notice::Withdrawal))
 }

@@ -7,7 +7,7 @@ ghost use Rattle.std.specs.Prelude.{◌≡◌, ◌++◌, ◌+◌, ◌≤◌, len
 ghost use Rattle.text_bytes.specs.Bytes.{room};
 ghost use Rattle.text_protocol.specs.Calls.{deed_of, deed_asked};
 ghost use Rattle.text_protocol.specs.Answers.{answer_most};
-ghost use Rattle.text_line.specs.ReadLine.{said_as};
+ghost use Rattle.text_line.specs.ReadLine.{said};
 ghost use Rattle.text_deed.specs.Deeds.{asks_why, fault_shown, reason_said, reasons_in, call_said, line_text};
 ghost use Rattle.text_deed.specs.Deeds.{ask_count, line_count, AsksFor};
 
@@ -25,7 +25,7 @@ use text_call::{call_of, figures, interest_of};
 use text_evening::Telling;
 use text_line::Line;
 use text_out::Text;
-use text_protocol::{Ask, CallKind, Kept, Pairs, Performed, Role, bond_place, interest_place};
+use text_protocol::{Ask, CallKind, Kept, Performed, Role, bond_place, interest_place};
 
 // What the calls beside the table answer to a line, the interest side's and a bond's: only the one that the line asks
 // for counts.
@@ -45,24 +45,19 @@ pub struct LineDeed {
 
 // ---- what a line asks for
 
-// What a line of a kind asks for, with the numbers `zs` and the pairs `p`, where `k` is kept of the interest lines
-// before it.
-fn ask_of(zs: &[i64], kind: u64, p: Pairs, k: Kept) -> Ask
-    ensures { deed_asked result zs.now ≡ deed_of k (said_as kind zs.now p) }
+// What a line with the numbers `zs` asks for, where `k` is kept of the interest lines before it.
+fn ask_of(zs: &[i64], l: Line, k: Kept) -> Ask
+    ensures { deed_asked result zs.now ≡ deed_of k (said l zs.now) }
 {
-    if kind == CallKind::BLANK {
-        return Ask::Nothing;
+    match l {
+        Line::Blank => Ask::Nothing,
+        Line::Bad => Ask::NoCall,
+        Line::Call(kind, p) => match kind {
+            CallKind::Interest => Ask::Interest(interest_of(zs)),
+            CallKind::Bond => Ask::Bond(bond_of(k, p, zs)),
+            _ => Ask::Call(call_of(zs, kind, p, k)),
+        },
     }
-    if kind == CallKind::BAD {
-        return Ask::NoCall;
-    }
-    if kind == CallKind::INTEREST {
-        return Ask::Interest(interest_of(zs));
-    }
-    if kind == CallKind::BOND {
-        return Ask::Bond(bond_of(k, p, zs));
-    }
-    Ask::Call(call_of(zs, kind, p, k))
 }
 
 // An answer of the interest side. The bond's beside it is a refusal, which nothing prints.
@@ -98,10 +93,9 @@ fn of_desk(ask: Ask, k: Kept) -> LineDeed
 
 // What a line asks for, and what is answered to it beside the table.
 pub fn deed_of(zs: &[i64], l: Line, k: Kept) -> LineDeed
-    ensures { AsksFor k (deed_of k (said_as l.kind zs.now l.pairs)) zs.now result }
+    ensures { AsksFor k (deed_of k (said l zs.now)) zs.now result }
 {
-    let pairs = l.pairs;
-    let ask = ask_of(zs, l.kind, pairs, k);
+    let ask = ask_of(zs, l, k);
     match ask {
         Ask::Nothing => of_desk(ask, k),
         Ask::NoCall => of_desk(ask, k),

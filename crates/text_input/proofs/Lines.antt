@@ -13,11 +13,9 @@ use borrow.Author.Tests.{eqb-true}
 use Rattle.std.specs.Prelude.{None, Some}
 use Rattle.paper.specs.Lists.{pick}
 use Rattle.text_bytes.specs.Bytes.{line_feed, is_not, run, room}
-use Rattle.text_protocol.specs.Line.{meaning, kept_most, longest}
+use Rattle.text_protocol.specs.Line.{NoCall, meaning, longest}
 use Rattle.text_evidence.specs.declared.Delivered.{Delivered}
 use Rattle.text_evidence.specs.Evidence.{has_ended, Counted, counted_none, counted_on}
-use Rattle.text_line.specs.declared.Line.{Line}
-use Rattle.text_line.specs.ReadLine.{bad_line, LineSays}
 use Rattle.text_line.proofs.LineLoop.{long_line}
 use Rattle.text_input.specs.declared.Input.{Input}
 use Rattle.text_input.specs.declared.Behind.{Behind}
@@ -197,8 +195,8 @@ module _ (b : List ℕ) (i : Input) (p : Stands b i) where
           more : {t : List ℕ} → q.got ≡ t → unread b i ++ q.got ≡ unread b i ++ t
           more e = ap (λ (t : List ℕ). unread b i ++ t) e
 
-      pub long_says : (l : Line) (xs : List ℤ) → length xs ≡ kept_most → l ≡ bad_line → LineSays (meaning long) l xs
-      long_says l xs x e = long_line long l xs x (omega (arith, long_size)) e
+      pub long_says : NoCall ≡ meaning long
+      long_says = long_line long (omega (arith, long_size))
 
       pub long_is_long : longest < length long
       long_is_long = omega (arith, long_size)

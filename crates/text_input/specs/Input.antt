@@ -2,7 +2,7 @@
 use Rattle.std.specs.Prelude.{◌≡◌, ◌⊎◌, true, List, ◌∷◌, ◌++◌, ℕ, ◌+◌, ◌-◌, ◌≤◌, ◌<◌, ℤ, length, take, drop, MatchOption}
 use Rattle.text_bytes.specs.Bytes.{room, line_feed, is_not, run}
 use Rattle.text_protocol.specs.Line.{meaning, longest}
-use Rattle.text_line.specs.ReadLine.{LineSays}
+use Rattle.text_line.specs.ReadLine.{said}
 use Rattle.text_evidence.specs.declared.Delivered.{Delivered}
 use Rattle.text_evidence.specs.Evidence.{count_most, has_ended, Counted}
 use Rattle.text_input.specs.declared.Input.{Input}
@@ -113,5 +113,5 @@ pub record StandsAt (b : List ℕ) (from to : ℕ) (line : List ℕ) : Type 0 wh
 pub record Hears (b : List ℕ) (s : Input) (b' : List ℕ) (r : Heard) (xs : List ℤ) : Type 0 where
   pub line : List ℕ
   pub next : Next b s b' r.input line
-  pub says : LineSays (meaning line) r.line xs
+  pub says : said r.line xs ≡ meaning line
   pub there : StandsAt b' r.from r.to line

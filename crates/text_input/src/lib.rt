@@ -4,11 +4,11 @@
 ghost use Rattle.std.specs.Prelude.{◌≡◌, List, ℕ, ◌+◌, ◌-◌, ◌≤◌, length, take, drop};
 ghost use Rattle.text_input.specs.Input.{Stands, Waits, Unbroken, Passes, Readied, LongPassed, Hears};
 ghost use Rattle.text_bytes.specs.Bytes.{room};
-ghost use Rattle.text_protocol.specs.Line.{kept_most};
 
 use std::io::Stdin;
 use text_evidence::{Delivered, fill, shift};
-use text_line::{LONGEST, Line, bad, read_line};
+use text_line::numbers::Numbers;
+use text_line::{LONGEST, Line, read_line};
 use text_word::find;
 
 // The bytes of the buffer from `at` to `len` are delivered and not used. The next line ends at `end`, or no line is
@@ -175,8 +175,8 @@ fn behind_long(stdin: Stdin, buf: &mut [u8], left: u64, before: Delivered) -> In
 }
 
 // The next line. Where no line is whole, the input is waited for.
-pub fn hear(stdin: Stdin, buf: &mut [u8], xs: &mut [i64], s: Input) -> Heard
-    requires { (Stands buf.old s) × (length xs.old ≡ kept_most) }
+pub fn hear(stdin: Stdin, buf: &mut [u8], xs: &mut Numbers, s: Input) -> Heard
+    requires { Stands buf.old s }
     ensures { Hears buf.old s buf.new result xs.new }
 {
     let i = ready(stdin, buf, s);
@@ -194,7 +194,7 @@ pub fn hear(stdin: Stdin, buf: &mut [u8], xs: &mut [i64], s: Input) -> Heard
         let input = behind_long(stdin, buf, i.left, i.read);
         return Heard {
             input,
-            line: bad(),
+            line: Line::Bad,
             from: 0,
             to: 0,
         };

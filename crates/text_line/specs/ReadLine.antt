@@ -1,45 +1,34 @@
 -- What the code's answer and the lent numbers say of a line.
-use Rattle.std.specs.Prelude.{◌≡◌, List, ℕ, ◌+◌, ◌*◌, ◌≤◌, ◌<◌, eqb, ℤ, length, take}
-use Rattle.paper.specs.Lists.{pick}
+use Rattle.std.specs.Prelude.{◌≡◌, List, ℕ, ◌+◌, ◌*◌, ◌≤◌, ℤ, Option, None, Some}
 use Rattle.text_protocol.specs.declared.Pairs.{Pairs}
-use Rattle.text_protocol.specs.Names.{RRCL0, RRCL1, RRCL2, takes}
-use Rattle.text_protocol.specs.Line.{Said, Nothing, NoCall, Call, Reading, read, spoilt, no_pairs, place_in, more}
-use Rattle.text_protocol.specs.Line.{kept_most}
+use Rattle.text_protocol.specs.declared.CallKind.{CallKind}
+use Rattle.text_protocol.specs.declared.CallKind.TheVariants as kind
+use Rattle.text_protocol.specs.Names.{RRCL0, RRCL1, RRCL2, admit_word, evaluate_word, quote_word, move_word, read_word}
+use Rattle.text_protocol.specs.Names.{open_word, outside_word, notice_word, withdraw_word, interest_word, bond_word}
+use Rattle.text_protocol.specs.Kinds.{kind_number}
+use Rattle.text_protocol.specs.Line.{Said, Nothing, NoCall, Call, Reading, read, spoilt, place_in}
 use Rattle.text_line.specs.declared.Line.{Line}
-use Rattle.text_line.specs.declared.Taken.{Taken}
+use Rattle.text_line.specs.declared.Line.TheVariants as line
 
--- behind the kinds of the calls, that of a line that says nothing, and that of one that is no call
-abbrev pub blank_kind : ℕ
-blank_kind = 100
+-- a call's word
+abbrev pub word_of : CallKind → List ℕ
+word_of kind.Admit = admit_word
+word_of kind.Evaluate = evaluate_word
+word_of kind.Quote = quote_word
+word_of kind.Move = move_word
+word_of kind.Read = read_word
+word_of kind.Open = open_word
+word_of kind.Outside = outside_word
+word_of kind.Notice = notice_word
+word_of kind.Withdraw = withdraw_word
+word_of kind.Interest = interest_word
+word_of kind.Bond = bond_word
 
-abbrev pub bad_kind : ℕ
-bad_kind = 101
-
-abbrev pub blank_line : Line
-blank_line = record { kind = blank_kind; count = 0; pairs = no_pairs }
-
-abbrev pub bad_line : Line
-bad_line = record { kind = bad_kind; count = 0; pairs = no_pairs }
-
--- what a line of a kind says, with its numbers and pairs
-abbrev pub said_as : (kind : ℕ) → (numbers : List ℤ) → Pairs → Said
-said_as k zs p = pick (eqb k blank_kind) Nothing (pick (eqb k bad_kind) NoCall (Call k zs p))
-
-unfoldable pub said : Line → List ℤ → Said
-said l xs = said_as l.kind (take l.count xs) l.pairs
-
--- the reader's promise: the line says s, its numbers are the first of xs, xs is as long as it was, and the kind is one
--- of a call's or of the two behind them
-pub record LineSays (s : Said) (l : Line) (xs : List ℤ) : Type 0 where
-  pub says : said l xs ≡ s
-  pub long : length xs ≡ kept_most
-  pub most : l.count ≤ kept_most
-  pub low : 0 < l.kind
-  pub high : l.kind ≤ bad_kind
-
--- a call of so many numbers, where it takes so many
-unfoldable pub line_of : (kind count : ℕ) → Pairs → Line
-line_of k n p = pick (takes k n) (record { kind = k; count = n; pairs = p }) bad_line
+-- what a line says, with its numbers
+abbrev pub said : Line → (numbers : List ℤ) → Said
+said line.Blank zs = Nothing
+said line.Bad zs = NoCall
+said (line.Call kind p) zs = Call (kind_number kind) zs p
 
 -- the numbers K RRCL RRCH of a term
 abbrev pub term_numbers : ℕ
@@ -56,17 +45,7 @@ pub record LowsAt (k at : ℕ) : Type 0 where
   pub third : at + 2 * term_numbers ≡ place_in k RRCL2
   pub small : at ≤ bond_low
 
--- one number more among those that are kept
-pub record Keeps (xs : List ℤ) (n : ℕ) (z : ℤ) (xs' : List ℤ) (n' : ℕ) : Type 0 where
-  pub are : take n' xs' ≡ more (take n xs) z
-  pub long : length xs' ≡ kept_most
-  pub most : n' ≤ kept_most
-
 -- what is read with a word more
-unfoldable pub reading_of : Taken → List ℤ → Reading
-reading_of r xs = pick r.ok (read (take r.count xs) r.pairs) spoilt
-
-pub record Takes (goal : Reading) (r : Taken) (xs : List ℤ) : Type 0 where
-  pub are : reading_of r xs ≡ goal
-  pub long : length xs ≡ kept_most
-  pub most : r.count ≤ kept_most
+abbrev pub reading_of : Option Pairs → List ℤ → Reading
+reading_of None zs = spoilt
+reading_of (Some p) zs = read zs p

@@ -1,148 +1,137 @@
 // What a line of the evening's text says: its call, with the numbers in a lent array.
 #![tactic(auto)]
 
-ghost use Rattle.std.specs.Prelude.{◌≡◌, false, [], ◌≤◌, length, take, drop};
-ghost use Rattle.text_bytes.specs.Bytes.{words};
-ghost use Rattle.text_protocol.specs.Names.{kind_of, takes};
-ghost use Rattle.text_protocol.specs.Line.{no_pairs, has_terms, pair_fits, with_pair, taking, fill, is_heading, meaning};
-ghost use Rattle.text_protocol.specs.Line.{kept_most};
-ghost use Rattle.text_line.specs.ReadLine.{blank_line, bad_line, LineSays, line_of, LowsAt, Keeps, Takes};
+pub mod numbers; // the numbers of a line
 
+ghost use Rattle.std.specs.Prelude.{◌≡◌, [], ◌≤◌, length, drop};
+ghost use Rattle.std.specs.List.{find};
+ghost use Rattle.std.specs.Str.{bytes_eq};
+ghost use Rattle.text_bytes.specs.Bytes.{words};
+ghost use Rattle.text_protocol.specs.Names.{takes};
+ghost use Rattle.text_protocol.specs.Kinds.{kind_number};
+ghost use Rattle.text_protocol.specs.Line.{no_pairs, has_terms, pair_fits, with_pair, taking, fill, finished, is_heading, meaning};
+ghost use Rattle.text_line.specs.ReadLine.{word_of, said, LowsAt, reading_of};
+
+use crate::numbers::Numbers;
 use text_bytes::ROOM;
 use text_protocol::{
-    CALLS, COUNTS, CallKind, Item, KEPT, LENGTHS, MORE, Pairs, WORD_ROOM, WORDS, bond_place,
-    evaluate_place,
+    CallKind, Item, Pairs, admit_place, bond_place, evaluate_place, id_place, interest_place,
+    move_place, notice_place, outside_place, quote_place,
 };
-use text_word::{past_blanks, past_word, same_bytes, word_at};
+use text_word::{past_blanks, past_word, word_at};
 
 // A line of more bytes is no call: the buffer has no room for a line feed behind them.
 pub const LONGEST: usize = ROOM - 1;
 
-// The numbers K RRCL RRCH of a term.
-const TERM_NUMBERS: usize = 3;
-
-// What a line says. A call's numbers are the first `count` of the lent array.
+// What a line says: nothing, no call, or a call with pairs in some of its terms. A call's numbers are lent beside it.
 #[derive(Clone, Copy)]
-pub struct Line {
-    pub kind: u64,
-    pub count: usize,
-    pub pairs: Pairs,
-}
-
-// ---- the kinds of lines
-
-fn no_pairs() -> Pairs
-    ensures { result ≡ no_pairs }
-{
-    Pairs {
-        first: false,
-        second: false,
-        third: false,
-    }
-}
-
-fn blank() -> Line
-    ensures { result ≡ blank_line }
-{
-    Line {
-        kind: CallKind::BLANK,
-        count: 0,
-        pairs: no_pairs(),
-    }
-}
-
-pub fn bad() -> Line
-    ensures { result ≡ bad_line }
-{
-    Line {
-        kind: CallKind::BAD,
-        count: 0,
-        pairs: no_pairs(),
-    }
+pub enum Line {
+    Blank,
+    Bad,
+    Call(CallKind, Pairs),
 }
 
 // Whether a word is the first of a heading, which says nothing.
+#[tactic(auto, unfolding(text_protocol::specs::Line::is_heading))]
 fn is_heading(p: &[u8]) -> bool
     ensures { result ≡ is_heading p.now }
 {
-    if p.len() == 0 {
-        return false;
-    }
-    p[0] == b'#'
+    matches!(p, [b'#', ..])
 }
 
-// Which call a word is, 0 where it is no call's: by the table of the calls' words.
-fn kind_of(p: &[u8]) -> u64
-    ensures { result ≡ kind_of p.now }
+// Every call.
+const CALLS: [CallKind; 11] = [
+    CallKind::Admit,
+    CallKind::Evaluate,
+    CallKind::Quote,
+    CallKind::Move,
+    CallKind::Read,
+    CallKind::Open,
+    CallKind::Outside,
+    CallKind::Notice,
+    CallKind::Withdraw,
+    CallKind::Interest,
+    CallKind::Bond,
+];
+
+// A call's word.
+fn word_of(kind: CallKind) -> &'static [u8]
+    ensures { result.now ≡ word_of kind }
 {
-    let mut call: usize = 0;
-    while call < CALLS {
-        let from = WORD_ROOM * call;
-        let to = from + LENGTHS[call];
-        if same_bytes(p, &WORDS[from..to]) {
-            return call as u64 + CallKind::ADMIT;
-        }
-        call += 1;
+    match kind {
+        CallKind::Admit => b"admit",
+        CallKind::Evaluate => b"evaluate",
+        CallKind::Quote => b"quote",
+        CallKind::Move => b"move",
+        CallKind::Read => b"read",
+        CallKind::Open => b"open",
+        CallKind::Outside => b"outside",
+        CallKind::Notice => b"notice",
+        CallKind::Withdraw => b"withdraw",
+        CallKind::Interest => b"interest",
+        CallKind::Bond => b"bond",
     }
-    0
 }
 
-// Whether a call of the kind has so many numbers: by its row of the table of calls.
-fn takes(kind: u64, count: usize) -> bool
-    ensures { result ≡ takes kind count }
+// Which call a word is.
+fn kind_of(p: &[u8]) -> Option<CallKind>
+    ensures { result ≡ find (λ kind. bytes_eq p.now (word_of kind)) CALLS }
 {
-    if kind < CallKind::ADMIT {
-        return false;
-    }
-    let call = (kind - CallKind::ADMIT) as usize;
-    if CALLS <= call {
-        return false;
-    }
-    let least = COUNTS[call];
-    if MORE[call] {
-        return least <= count;
-    }
-    count == least
+    CALLS.iter().copied().find(|kind| p == word_of(*kind))
 }
 
-fn finish(kind: u64, count: usize, pairs: Pairs) -> Line
-    ensures { result ≡ line_of kind count pairs }
+// Whether a call of the kind has so many numbers. More may follow behind those of `evaluate`, its row figures, of
+// `interest`, the key maturities, and of `bond`, the cash flows.
+#[tactic(auto, unfolding(text_protocol::specs::Names::takes, text_protocol::specs::Names::takes_in, text_protocol::specs::Names::count_fits, text_protocol::specs::Names::forms))]
+fn takes(kind: CallKind, count: usize) -> bool
+    ensures { result ≡ takes (kind_number kind) count }
 {
-    if takes(kind, count) {
-        return Line { kind, count, pairs };
+    match kind {
+        CallKind::Admit => count == admit_place::COUNT,
+        CallKind::Evaluate => evaluate_place::COUNT <= count,
+        CallKind::Quote => count == quote_place::COUNT,
+        CallKind::Move => count == move_place::COUNT,
+        CallKind::Read | CallKind::Open | CallKind::Withdraw => count == id_place::COUNT,
+        CallKind::Outside => count == outside_place::COUNT,
+        CallKind::Notice => count == notice_place::COUNT,
+        CallKind::Interest => interest_place::COUNT <= count,
+        CallKind::Bond => bond_place::COUNT <= count,
     }
-    bad()
 }
 
 // ---- the numbers of a call
 
 // The calls with three terms, an evaluation and a bond.
-fn has_terms(kind: u64) -> bool
-    ensures { result ≡ has_terms kind }
+#[tactic(auto, unfolding(text_protocol::specs::Line::has_terms))]
+fn has_terms(kind: CallKind) -> bool
+    ensures { result ≡ has_terms (kind_number kind) }
 {
-    (kind == CallKind::EVALUATE) | (kind == CallKind::BOND)
+    matches!(kind, CallKind::Evaluate | CallKind::Bond)
 }
 
 // Where the first term's RRCL stands in a call with terms. Those of the other two follow a term's numbers apart.
-fn first_low(kind: u64) -> usize
-    ensures { LowsAt kind result }
+fn first_low(kind: CallKind) -> usize
+    ensures { LowsAt (kind_number kind) result }
 {
-    if kind == CallKind::BOND {
-        return bond_place::RRCL0;
+    match kind {
+        CallKind::Bond => bond_place::RRCL0,
+        _ => evaluate_place::RRCL0,
     }
-    evaluate_place::RRCL0
 }
 
+// The numbers K RRCL RRCH of a term.
+const TERM_NUMBERS: usize = 3;
+
 // A pair stands in a call with terms alone, in place of a term's RRCL RRCH.
-pub fn pair_fits(kind: u64, n: usize) -> bool
-    ensures { result ≡ pair_fits kind n }
+pub fn pair_fits(kind: CallKind, n: usize) -> bool
+    ensures { result ≡ pair_fits (kind_number kind) n }
 {
     let low = first_low(kind);
     has_terms(kind) & ((n == low) | ((n == low + TERM_NUMBERS) | (n == low + 2 * TERM_NUMBERS)))
 }
 
-pub fn with_pair(kind: u64, n: usize, p: Pairs) -> Pairs
-    ensures { result ≡ with_pair kind n p }
+pub fn with_pair(kind: CallKind, n: usize, p: Pairs) -> Pairs
+    ensures { result ≡ with_pair (kind_number kind) n p }
 {
     let low = first_low(kind);
     Pairs {
@@ -152,109 +141,81 @@ pub fn with_pair(kind: u64, n: usize, p: Pairs) -> Pairs
     }
 }
 
-// A number more, kept where there is room for it.
-fn keep(xs: &mut [i64], n: usize, z: i64) -> usize
-    requires { (length xs.old ≡ kept_most) × (n ≤ kept_most) }
-    ensures { Keeps xs.old n z xs.new result }
-{
-    if n < KEPT {
-        xs[n] = z;
-        return n + 1;
-    }
-    n
-}
-
-// What is read of a call's numbers: how many, and which of them are pairs; or that something is in no call.
-#[derive(Clone, Copy)]
-pub struct Taken {
-    pub ok: bool,
-    pub count: usize,
-    pub pairs: Pairs,
-}
-
-fn spoilt(count: usize, pairs: Pairs) -> Taken
-    ensures { result ≡ record { ok = false; count = count; pairs = pairs } }
-{
-    Taken {
-        ok: false,
-        count,
-        pairs,
-    }
-}
-
-// A word more.
-fn take_word(xs: &mut [i64], kind: u64, n: usize, pairs: Pairs, w: Item) -> Taken
-    requires { (length xs.old ≡ kept_most) × (n ≤ kept_most) }
-    ensures { Takes (taking kind (take n xs.old) pairs w) result xs.new }
+// A word more: the pairs with it, unless it is in no call.
+#[tactic(auto, unfolding(text_protocol::specs::Line::taking))]
+fn take_word(xs: &mut Numbers, kind: CallKind, pairs: Pairs, w: Item) -> Option<Pairs>
+    ensures { reading_of result xs.new ≡ taking (kind_number kind) xs.old pairs w }
 {
     match w {
-        Item::One(z) => Taken {
-            ok: true,
-            count: keep(xs, n, z),
-            pairs,
-        },
-        Item::Two(ym, yn) => {
-            if pair_fits(kind, n) {
-                let half = keep(xs, n, ym);
-                let count = keep(xs, half, yn);
-                return Taken {
-                    ok: true,
-                    count,
-                    pairs: with_pair(kind, n, pairs),
-                };
-            }
-            spoilt(n, pairs)
+        Item::One(z) => {
+            xs.keep(z);
+            Some(pairs)
         }
-        Item::Neither => spoilt(n, pairs),
+        Item::Two(ym, yn) => {
+            let n = xs.count();
+            if !pair_fits(kind, n) {
+                return None;
+            }
+            xs.keep(ym);
+            xs.keep(yn);
+            Some(with_pair(kind, n, pairs))
+        }
+        Item::Neither => None,
+    }
+}
+
+// A call with its numbers, where it takes so many.
+#[tactic(auto, unfolding(text_protocol::specs::Line::finished))]
+fn finish(kind: CallKind, pairs: Pairs, xs: &Numbers) -> Line
+    ensures { said result xs.now ≡ finished (kind_number kind) xs.now pairs }
+{
+    if takes(kind, xs.count()) {
+        Line::Call(kind, pairs)
+    } else {
+        Line::Bad
     }
 }
 
 // The words from `from` on, behind the call's.
-fn numbers(l: &[u8], from: usize, kind: u64, xs: &mut [i64]) -> Line
-    requires { (from ≤ length l.now) × (length xs.old ≡ kept_most) }
-    ensures { LineSays (fill kind [] no_pairs (words (drop from l.now))) result xs.new }
+fn words_behind(l: &[u8], from: usize, kind: CallKind, xs: &mut Numbers) -> Line
+    requires { from ≤ length l.now }
+    ensures { said result xs.new ≡ fill (kind_number kind) [] no_pairs (words (drop from l.now)) }
 {
+    xs.clear();
     let mut s = from;
-    let mut n: usize = 0;
-    let mut pairs = no_pairs();
+    let mut pairs = Pairs::default();
     loop {
         let a = past_blanks(l, s);
         if a == l.len() {
-            return finish(kind, n, pairs);
+            return finish(kind, pairs, xs);
         }
         let w = word_at(l, a);
-        let item = w.item;
-        let t = take_word(xs, kind, n, pairs, item);
-        let ok = t.ok;
-        if !ok {
-            return bad();
-        }
-        n = t.count;
-        let p = t.pairs;
-        pairs = p;
+        let Some(more) = take_word(xs, kind, pairs, w.item) else {
+            return Line::Bad;
+        };
+        pairs = more;
         s = w.end;
     }
 }
 
 // What a line says.
-pub fn read_line(l: &[u8], xs: &mut [i64]) -> Line
-    requires { length xs.old ≡ kept_most }
-    ensures { LineSays (meaning l.now) result xs.new }
+pub fn read_line(l: &[u8], xs: &mut Numbers) -> Line
+    ensures { said result xs.new ≡ meaning l.now }
 {
     if LONGEST < l.len() {
-        return bad();
+        return Line::Bad;
     }
     let a = past_blanks(l, 0);
     if a == l.len() {
-        return blank();
+        return Line::Blank;
     }
     let e = past_word(l, a);
-    if is_heading(&l[a..e]) {
-        return blank();
+    let word = &l[a..e];
+    if is_heading(word) {
+        return Line::Blank;
     }
-    let kind = kind_of(&l[a..e]);
-    if kind == 0 {
-        return bad();
+    match kind_of(word) {
+        Some(kind) => words_behind(l, e, kind, xs),
+        None => Line::Bad,
     }
-    numbers(l, e, kind, xs)
 }

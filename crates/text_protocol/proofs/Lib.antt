@@ -3,3 +3,4 @@ pub mod Variants
 pub mod Filling
 pub mod Reading
 pub mod Silence
+pub mod KindLaws

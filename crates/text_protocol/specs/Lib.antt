@@ -1,5 +1,6 @@
 -- The definitions of text_protocol, a file each.
 pub mod Names
+pub mod Kinds
 pub mod Line
 pub mod Written
 pub mod LineCases

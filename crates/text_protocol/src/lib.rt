@@ -214,83 +214,22 @@ pub mod bond_place {
 // The numbers that a line keeps: those of an evaluation and its row figures, with one figure more than a day may have.
 pub const KEPT: usize = evaluate_place::COUNT + Row::ALL_NUMBERS_MOST + 1;
 
-// The place of a call in the table of the calls' forms (specs/Names.antt), counted from 1. A line's word is looked up
-// by it; once a line is read, `Ask` says what it asks for.
+// The calls, in the order of their forms (specs/Names.antt). A line's word is looked up by it; once a line is read, `Ask`
+// says what it asks for.
 #[derive(Clone, Copy)]
-pub struct CallKind {
-    pub number: u64,
+pub enum CallKind {
+    Admit,
+    Evaluate,
+    Quote,
+    Move,
+    Read,
+    Open,
+    Outside,
+    Notice,
+    Withdraw,
+    Interest,
+    Bond,
 }
-
-impl CallKind {
-    pub const ADMIT: u64 = 1;
-
-    pub const EVALUATE: u64 = 2;
-
-    pub const QUOTE: u64 = 3;
-
-    pub const MOVE: u64 = 4;
-
-    pub const READ: u64 = 5;
-
-    pub const OPEN: u64 = 6;
-
-    pub const OUTSIDE: u64 = 7;
-
-    pub const NOTICE: u64 = 8;
-
-    pub const WITHDRAW: u64 = 9;
-
-    pub const INTEREST: u64 = 10;
-
-    pub const BOND: u64 = 11;
-
-    // No call: a line with no word, and one that says no call. A call more leaves these two as they are.
-    pub const BLANK: u64 = 100;
-
-    pub const BAD: u64 = 101;
-}
-
-// The calls in the order of their kinds: how many numbers each has, and behind which more may follow, the row figures
-// of `evaluate`, the key maturities of `interest` and the cash flows of `bond`.
-pub const CALLS: usize = 11;
-
-pub const COUNTS: [usize; CALLS] = [
-    admit_place::COUNT,
-    evaluate_place::COUNT,
-    quote_place::COUNT,
-    move_place::COUNT,
-    id_place::COUNT, // read
-    id_place::COUNT, // open
-    outside_place::COUNT,
-    notice_place::COUNT,
-    id_place::COUNT, // withdraw
-    interest_place::COUNT,
-    bond_place::COUNT,
-];
-
-pub const MORE: [bool; CALLS] = [
-    false, true, // evaluate
-    false, false, false, false, false, false, false, true, // interest
-    true, // bond
-];
-
-// Their words, each in so much room with spaces behind it, and how long each is.
-pub const WORD_ROOM: usize = 8;
-
-pub const WORDS: [u8; WORD_ROOM * CALLS] = *b"\
-    admit   \
-    evaluate\
-    quote   \
-    move    \
-    read    \
-    open    \
-    outside \
-    notice  \
-    withdraw\
-    interest\
-    bond    ";
-
-pub const LENGTHS: [usize; CALLS] = [5, 8, 5, 4, 4, 4, 7, 6, 8, 8, 4];
 
 // What a word behind the call's is: one number, a pair of terms Ym/Yn, or neither.
 #[derive(Clone, Copy)]
@@ -317,7 +256,7 @@ pub struct Kept {
 }
 
 // Which of the three terms of an evaluation or of a bond have a pair of terms Ym/Yn in place of their band.
-#[derive(Clone, Copy)]
+#[derive(Clone, Copy, Default)]
 pub struct Pairs {
     pub first: bool,
     pub second: bool,

@@ -4,7 +4,7 @@ use mathlib.Core.Bool.{Bool}
 use mathlib.Core.List.{List, ◌++◌}
 use Prim.Native.Nat.{ℕ}
 use lib.IntN.{ℤ}
-use lib.ListN.{length, take, drop}
+use lib.ListN.{length, drop}
 use Rattle.paper.specs.declared.Record.{Record}
 use Rattle.text_protocol.specs.declared.Ask.{Ask}
 use Rattle.text_protocol.specs.declared.Ask.TheVariants as ask
@@ -43,17 +43,14 @@ table_of asked (ask.Bond b) zs p t t' h = h
 -- ---- the turn
 
 module _ (t t' : List Record) {b : List ℕ} {s : State} {b' : List ℕ} {p : Prepared} {xs rows : List ℤ} {a : Performed}
-    {o o' : List ℕ} {r : State} (heard : Prepares b s b' p xs) (are : rows ≡ drop evaluate_count (take p.count xs))
+    {o o' : List ℕ} {r : State} (heard : Prepares b s b' p xs) (are : rows ≡ drop evaluate_count xs)
     (done : Asks p.asked p.ask rows t a t')
     (told : Tells o p a o' r) where
-  abbrev zs : List ℤ
-  zs = take p.count xs
-
   abbrev deed : Deed
   deed = deed_of s.kept (meaning heard.line)
 
-  performed : Asks p.asked p.ask (figures_behind evaluate_names zs) t a t'
-  performed = subst (λ (fs : List ℤ). Asks p.asked p.ask fs t a t') (are ∙ rows_behind zs) done
+  performed : Asks p.asked p.ask (figures_behind evaluate_names xs) t a t'
+  performed = subst (λ (fs : List ℤ). Asks p.asked p.ask fs t a t') (are ∙ rows_behind xs) done
 
   evening_is : evening_of r t' ≡ after heard.line (evening_of s t)
   unfolding after
@@ -61,7 +58,7 @@ module _ (t t' : List Record) {b : List ℕ} {s : State} {b' : List ℕ} {p : Pr
       let number : r.number ≡ number_after s.number = told.number ∙ ap number_after heard.number in
       let kept = told.kept ∙ heard.kept in
       let table : t' ≡ table_after deed t =
-      table_of p.asked p.ask zs a t t' performed ∙ ap (λ (d : Deed). table_after d t) heard.asks in
+      table_of p.asked p.ask xs a t t' performed ∙ ap (λ (d : Deed). table_after d t) heard.asks in
       λ i. record { number = number i; kept = kept i; table = table i }
 
   text_is : line_text p.state.telling p.ask p.state.number p.beside a
@@ -69,7 +66,7 @@ module _ (t t' : List Record) {b : List ℕ} {s : State} {b' : List ℕ} {p : Pr
   unfolding answer
   text_is =
       rw (heard.telling, heard.number, ← heard.asks)
-      (told_as s.telling s.number p.ask zs p.beside a t t' (rw heard.asks heard.beside)
+      (told_as s.telling s.number p.ask xs p.beside a t t' (rw heard.asks heard.beside)
       (rw heard.asked at performed))
 
   -- how many messages they are
@@ -78,7 +75,7 @@ module _ (t t' : List Record) {b : List ℕ} {s : State} {b' : List ℕ} {p : Pr
   unfolding line_messages
   count_is =
       rw (heard.telling, heard.number, ← heard.asks)
-      (counted_as s.telling s.number p.ask zs a t t' (rw heard.asked at performed))
+      (counted_as s.telling s.number p.ask xs a t t' (rw heard.asked at performed))
 
   stream_is : r.stream
       ≡ stream_on s.telling s.stream (length (line_messages s.telling heard.line (evening_of s t)))

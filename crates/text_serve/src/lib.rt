@@ -2,16 +2,14 @@
 // answered.
 #![tactic(auto)]
 
-ghost use Rattle.std.specs.Prelude.{◌≡◌, ◌+◌, ◌-◌, ◌≤◌, eqb, length, take, drop, replicate, get_or, set};
+ghost use Rattle.std.specs.Prelude.{◌≡◌, ◌+◌, ◌-◌, ◌≤◌, eqb, length, drop, replicate, get_or, set};
 ghost use Rattle.paper_desk.specs.Desk.{blank};
 ghost use Rattle.text_input.specs.Input.{Stands};
-ghost use Rattle.text_turn.specs.Turn.{Prepares};
 ghost use Rattle.text_ask.specs.WithReasons.{Asks};
 ghost use Rattle.text_serve.specs.Places.{places_most, entry_of, note_of, Sound};
 ghost use Rattle.text_serve.specs.Serve.{Turns, Serves, Closes};
 ghost use Rattle.text_bytes.specs.Bytes.{room};
 ghost use Rattle.text_protocol.specs.Answers.{answer_most};
-ghost use Rattle.text_protocol.specs.Line.{kept_most};
 ghost use Rattle.text_protocol.specs.Names.{evaluate_count};
 ghost use Rattle.paper.specs.Numbers.{slots_most};
 ghost use Rattle.paper_messages.specs.Broadcast.{sent};
@@ -27,25 +25,11 @@ use text_broadcast::{begin_message, end_message};
 use text_bytes::ROOM;
 use text_evening::Telling;
 use text_evidence::Written;
+use text_line::numbers::Numbers;
 use text_out::Text;
-use text_protocol::{Ask, KEPT, Performed};
+use text_protocol::{Ask, Performed};
 use text_turn::after::tell;
-use text_turn::{Prepared, State, prepare, rows_of, start};
-
-// Hears the next line, with the bytes and the numbers of it in arrays, whose lengths their types say.
-pub fn hear_in(stdin: Stdin, buf: &mut [u8; ROOM], xs: &mut [i64; KEPT], s: State) -> Prepared
-    requires { Stands buf.old s.input }
-    ensures { Prepares buf.old s buf.new result xs.new }
-{
-    prepare(stdin, buf, xs, s)
-}
-
-// The row figures of a line of so many numbers.
-pub fn rows_in(xs: &[i64; KEPT], count: usize) -> &[i64]
-    ensures { result.now ≡ drop evaluate_count (take count xs.now) }
-{
-    rows_of(xs, count)
-}
+use text_turn::{State, prepare, rows_of, start};
 
 // As many places are noted, an entry for the ids with one rest: a power of two above the slots.
 pub const PLACES: usize = 1024;
@@ -72,10 +56,7 @@ pub fn guess_in(places: &[usize; PLACES], id: u64) -> usize
 fn place_noted(noted: usize) -> usize
     ensures { result ≡ noted - 1 }
 {
-    if noted == 0 {
-        return 0;
-    }
-    noted - 1
+    noted.saturating_sub(1)
 }
 
 // Whether a place is the one that is noted.
@@ -111,14 +92,13 @@ pub fn note_in(places: &mut [usize; PLACES], id: u64, note: usize)
 // without a search, and its record is not tested once more. The numbers of the line have a lifetime of their own.
 pub fn asked_in<'a, 'b>(
     t: &'a mut [Record],
-    xs: &'b [i64; KEPT],
+    xs: &'b Numbers,
     places: &'a mut [usize; PLACES],
     a: Ask,
-    count: usize,
     asked: bool,
 ) -> Performed
     requires { Sound t.old places.old }
-    ensures { (Asks asked a (drop evaluate_count (take count xs.now)) t.old result t.new)
+    ensures { (Asks asked a (drop evaluate_count xs.now) t.old result t.new)
         × Sound t.new places.new }
 {
     let id = id_asked(a);
@@ -129,7 +109,7 @@ pub fn asked_in<'a, 'b>(
     let good = good_at(t, at, known);
     let note = note_of(at, good);
     note_in(places, id, note);
-    ask(t, at, good, a, rows_in(xs, count), asked)
+    ask(t, at, good, a, rows_of(xs), asked)
 }
 
 // One line: heard, asked of the desk, answered.
@@ -138,7 +118,7 @@ pub fn step<'a, 'b>(
     stdout: Stdout,
     t: &'a mut [Record],
     buf: &'a mut [u8; ROOM],
-    xs: &'b mut [i64; KEPT],
+    xs: &'b mut Numbers,
     out: &'a mut Text,
     places: &'a mut [usize; PLACES],
     s: State,
@@ -147,16 +127,9 @@ pub fn step<'a, 'b>(
     ensures { (Turns buf.old s t.old out.old
         buf.new result t.new out.new) × Sound t.new places.new }
 {
-    let p = hear_in(stdin, buf, xs, s);
-    let a = asked_in(t, xs, places, p.ask, p.count, p.asked);
+    let p = prepare(stdin, buf, xs, s);
+    let a = asked_in(t, xs, places, p.ask, p.asked);
     tell(stdout, out, p, a)
-}
-
-// No number.
-pub fn no_numbers() -> [i64; KEPT]
-    ensures { kept_most ≡ length result }
-{
-    [0; KEPT]
 }
 
 // No place is noted.
@@ -171,7 +144,7 @@ pub fn serve(stdin: Stdin, stdout: Stdout, t: &mut [Record], telling: Telling) -
     ensures { Serves telling t.old result t.new }
 {
     let mut buf = text_evidence::large_buffer();
-    let mut xs = no_numbers();
+    let mut xs = Numbers::none();
     let mut out = Text::new();
     let mut places = no_places();
     let mut s = start(telling);

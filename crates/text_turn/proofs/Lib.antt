@@ -1,4 +1,3 @@
 -- The laws of text_turn, a file each; its own proofs alone cite them.
 mod Preparing
-mod Rows
 mod WaysOut

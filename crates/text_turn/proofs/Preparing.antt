@@ -1,14 +1,12 @@
 -- A line that was heard, and what it asks for: what `prepare` promises.
-use mathlib.Core.Path.{◌≡◌, refl, subst}
+use mathlib.Core.Path.{◌≡◌, refl}
 use mathlib.Core.Bool.{Bool}
 use mathlib.Core.List.{List}
 use Prim.Native.Nat.{ℕ}
 use lib.IntN.{ℤ}
-use lib.ListN.{take}
-use Rattle.text_protocol.specs.Line.{Said, meaning}
+use Rattle.text_protocol.specs.Line.{meaning}
 use Rattle.text_protocol.specs.Calls.{deed_of}
-use Rattle.text_line.specs.declared.Line.{Line}
-use Rattle.text_line.specs.ReadLine.{said_as, said}
+use Rattle.text_line.specs.ReadLine.{said}
 use Rattle.text_input.specs.declared.Heard.{Heard}
 use Rattle.text_input.specs.Input.{Hears}
 use Rattle.text_deed.specs.declared.LineDeed.{LineDeed}
@@ -16,16 +14,8 @@ use Rattle.text_deed.specs.Deeds.{asks_why, AsksFor}
 use Rattle.text_turn.specs.declared.State.{State}
 use Rattle.text_turn.specs.Turn.{Prepares}
 
--- what the code has of a line says what the line says
-says_it : (l : Line) (xs : List ℤ) {s : Said} → said l xs ≡ s → said_as l.kind (take l.count xs) l.pairs ≡ s
-unfolding said
-says_it l xs e = e
-
 pub prepared : (b : List ℕ) (s : State) (b' : List ℕ) (h : Heard) (xs : List ℤ) (w : LineDeed) (asked : Bool)
-    → Hears b s.input b' h xs
-    → AsksFor s.kept (deed_of s.kept (said_as h.line.kind (take h.line.count xs) h.line.pairs))
-    (take h.line.count xs) w
-    → asked ≡ asks_why s.telling
+    → Hears b s.input b' h xs → AsksFor s.kept (deed_of s.kept (said h.line xs)) xs w → asked ≡ asks_why s.telling
     → Prepares b s b'
     (record {
       state =
@@ -37,7 +27,6 @@ pub prepared : (b : List ℕ) (s : State) (b' : List ℕ) (h : Heard) (xs : List
             telling = s.telling;
             stream = s.stream;
           };
-      count = h.line.count;
       ask = w.ask;
       beside = w.beside;
       asked = asked;
@@ -45,9 +34,7 @@ pub prepared : (b : List ℕ) (s : State) (b' : List ℕ) (h : Heard) (xs : List
       to = h.to;
     }) xs
 prepared b s b' h xs w asked p q e =
-    let d : AsksFor s.kept (deed_of s.kept (meaning p.line)) (take h.line.count xs) w =
-    subst (λ (x : Said). AsksFor s.kept (deed_of s.kept x) (take h.line.count xs) w)
-    (says_it h.line xs p.says.says) q in
+    let d : AsksFor s.kept (deed_of s.kept (meaning p.line)) xs w = rw p.says at q in
     record {
       line = p.line;
       next = p.next;

@@ -1,5 +1,5 @@
 -- The first half of a turn, before the table is asked, and where the first turn starts.
-use Rattle.std.specs.Prelude.{◌≡◌, List, ℕ, ℤ, take}
+use Rattle.std.specs.Prelude.{◌≡◌, List, ℕ, ℤ}
 use Rattle.text_evening.specs.declared.Telling.{Telling}
 use Rattle.text_protocol.specs.Kept.{none_kept}
 use Rattle.text_protocol.specs.Line.{meaning}
@@ -16,7 +16,7 @@ use Rattle.text_turn.specs.declared.Prepared.{Prepared}
 pub record Prepares (b : List ℕ) (s : State) (b' : List ℕ) (r : Prepared) (xs : List ℤ) : Type 0 where
   pub line : List ℕ
   pub next : Next b s.input b' r.state.input line
-  pub asks : deed_asked r.ask (take r.count xs) ≡ deed_of s.kept (meaning line)
+  pub asks : deed_asked r.ask xs ≡ deed_of s.kept (meaning line)
   pub kept : r.state.kept ≡ kept_by (deed_of s.kept (meaning line)) s.kept
   pub beside : BesideIs (deed_of s.kept (meaning line)) r.beside
   pub asked : r.asked ≡ asks_why s.telling

@@ -4,10 +4,9 @@
 
 pub mod after; // the second half, after the table is asked
 
-ghost use Rattle.std.specs.Prelude.{◌≡◌, length, take, drop};
+ghost use Rattle.std.specs.Prelude.{◌≡◌, drop};
 ghost use Rattle.text_input.specs.Input.{Stands};
 ghost use Rattle.text_turn.specs.Turn.{Prepares, start_state};
-ghost use Rattle.text_protocol.specs.Line.{kept_most};
 ghost use Rattle.text_protocol.specs.Names.{evaluate_count};
 
 use paper_streams::Stream;
@@ -17,6 +16,7 @@ use text_deed::{Beside, asks_why, deed_of};
 use text_evening::Telling;
 use text_evidence::Written;
 use text_input::{Input, hear};
+use text_line::numbers::Numbers;
 use text_protocol::{Ask, Kept, evaluate_place};
 
 // What goes on from line to line: what is left of the input, the number of the next line, what is kept of the interest
@@ -31,13 +31,12 @@ pub struct State {
     pub stream: Stream,
 }
 
-// A line that was heard: the state behind it, but for the number of the line, which goes on once it is told; how many
-// numbers the line has, what it asks for, what is answered to it beside the table, whether why is asked, and where the
-// line's bytes stand in the buffer.
+// A line that was heard: the state behind it, but for the number of the line, which goes on once it is told; what it
+// asks for, what is answered to it beside the table, whether why is asked, and where the line's bytes stand in the
+// buffer. Its numbers are lent beside it.
 #[derive(Clone, Copy)]
 pub struct Prepared {
     pub state: State,
-    pub count: usize,
     pub ask: Ask,
     pub beside: Beside,
     pub asked: bool,
@@ -46,48 +45,31 @@ pub struct Prepared {
 }
 
 // Hears the next line.
-pub fn prepare(stdin: Stdin, buf: &mut [u8], xs: &mut [i64], s: State) -> Prepared
-    requires { (Stands buf.old s.input) × (length xs.old ≡ kept_most) }
-    ensures { (Prepares buf.old s buf.new result xs.new) × (length xs.new
-        ≡ kept_most) }
+pub fn prepare(stdin: Stdin, buf: &mut [u8], xs: &mut Numbers, s: State) -> Prepared
+    requires { Stands buf.old s.input }
+    ensures { Prepares buf.old s buf.new result xs.new }
 {
-    let input = s.input;
-    let kept = s.kept;
-    let telling = s.telling;
-    let told = s.told;
-    let stream = s.stream;
-    let h = hear(stdin, buf, xs, input);
-    let line = h.line;
-    let count = line.count;
-    let deed = deed_of(&xs[..count], line, kept);
-    let input = h.input;
-    let kept = deed.kept;
-    let ask = deed.ask;
-    let beside = deed.beside;
+    let h = hear(stdin, buf, xs, s.input);
+    let deed = deed_of(xs.as_slice(), h.line, s.kept);
     Prepared {
         state: State {
-            input,
-            number: s.number,
-            kept,
-            told,
-            telling,
-            stream,
+            input: h.input,
+            kept: deed.kept,
+            ..s
         },
-        count,
-        ask,
-        beside,
-        asked: asks_why(telling),
+        ask: deed.ask,
+        beside: deed.beside,
+        asked: asks_why(s.telling),
         from: h.from,
         to: h.to,
     }
 }
 
-// The row figures of a line of so many numbers.
-pub fn rows_of(xs: &[i64], count: usize) -> &[i64]
-    ensures { result.now ≡ drop evaluate_count (take count xs.now) }
+// The row figures of a line.
+pub fn rows_of(xs: &Numbers) -> &[i64]
+    ensures { result.now ≡ drop evaluate_count xs.now }
 {
-    let end = count.min(xs.len());
-    figures(&xs[..end], evaluate_place::COUNT)
+    figures(xs.as_slice(), evaluate_place::COUNT)
 }
 
 // The sum of `begin`.

@@ -253,16 +253,3 @@ pub signed_plus : (t : List ℕ) (r : Option ℤ) (n : Option ℕ) → (get_or t
 unfolding number_of size_of
 signed_plus [] r n e o q s = absurd (o refl)
 signed_plus (b ∷ t) r n e o q s = rw (ne_eqb b minus_sign e, ← q) s
-
--- ---- two words
-
-pub same_is : (p w : List ℕ) → pointwise eqb p w ≡ same p w
-unfolding same
-same_is [] [] = refl
-same_is [] (c ∷ w) = refl
-same_is (b ∷ p) [] = refl
-same_is (b ∷ p) (c ∷ w) = go (eqb b c) (same_is p w)
-  where
-    go : (x : Bool) → pointwise eqb p w ≡ same p w → (x && pointwise eqb p w) ≡ pick x (same p w) false
-    go true e = e
-    go false e = refl

@@ -1,13 +1,15 @@
 -- The words of a text, from a place on.
 use mathlib.Core.Path.{◌≡◌, refl, ap, ap₂, ◌∙◌}
-use mathlib.Core.Bool.{Bool, true, false, not}
+use mathlib.Core.Bool.{Bool, true, false, ◌&&◌, not}
 use mathlib.Core.List.{List, [], ◌∷◌}
 use Prim.Native.Nat.{ℕ, suc, ◌+◌, ◌-◌, ◌≤◌, ◌<◌}
 use native.Mathlib.Omega.{arith}
 use lib.ListN.{length, take, drop, drop_of_length-le, length-drop}
 use lib.Seq.{drop-drop}
+use lib.Dec.{eqb}
+use Rattle.std.specs.Cmp.Lexicographic.{pointwise}
 use Rattle.paper.specs.Lists.{pick}
-use Rattle.text_bytes.specs.Bytes.{is_blank, run, grow, pieces, full, words}
+use Rattle.text_bytes.specs.Bytes.{is_blank, run, grow, pieces, full, words, same}
 use Rattle.text_word.specs.Parts.{is_solid}
 
 grow_first : (b : ℕ) (p : List ℕ) (qs : List (List ℕ)) → qs ≡ p ∷ drop 1 qs → grow b qs ≡ (b ∷ p) ∷ drop 1 (grow b qs)
@@ -121,3 +123,15 @@ word_some l s a e skip h k =
     l)) in
     let o : 0 < length (drop a l) = rw (length-drop a l) (omega arith) in
     omega (arith, run_some (drop a l) z o)
+
+-- the library's test of two lists is that of two words
+pub same_is : (p w : List ℕ) → pointwise eqb p w ≡ same p w
+unfolding same
+same_is [] [] = refl
+same_is [] (c ∷ w) = refl
+same_is (b ∷ p) [] = refl
+same_is (b ∷ p) (c ∷ w) = go (eqb b c) (same_is p w)
+  where
+    go : (x : Bool) → pointwise eqb p w ≡ same p w → (x && pointwise eqb p w) ≡ pick x (same p w) false
+    go true e = e
+    go false e = refl

@@ -1,62 +1,72 @@
--- `text_call::call_of` meets its contract: the branch of each kind makes the call that the definition has for it, and
--- the last is of no other kind. What it calls asks nothing of it.
+-- `text_call::call_of` meets its contract: the branch of each kind makes the call that the definition has for it. What
+-- it calls asks nothing of it.
 use lib.ListN.{drop}
-use borrow.Author.Tests.{ne_eqb}
+use mathlib.Core.Logic.{◌⊎◌, inl, inr}
+use mathlib.Core.Path.{◌≡◌}
+use mathlib.Core.List.{List}
+use Prim.Native.Nat.{ℕ}
+use lib.IntN.{ℤ}
+use Rattle.paper.specs.Ranges.{unsigned_at}
+use Rattle.paper.specs.declared.Notice.TheVariants as sent
+use Rattle.paper.specs.declared.AskedAbout.TheVariants as about
+use Rattle.text_protocol.specs.declared.AskedCall.TheVariants as asked
+use Rattle.text_protocol.specs.declared.CallKind.{CallKind}
+use Rattle.text_protocol.specs.declared.CallKind.TheVariants as kind
+use Rattle.text_protocol.specs.declared.Kept.{Kept}
+use Rattle.text_protocol.specs.declared.Pairs.{Pairs}
+use Rattle.text_protocol.specs.Kinds.{kind_number}
 use Rattle.paper_desk.specs.Desk.{ask_of}
 use Rattle.text_protocol.specs.Names.{the, place_of, code, forms, evaluate_count}
 use Rattle.text_protocol.specs.Calls.{desk_call, figures_behind, call_asked}
 use Rattle.text_call.proofs.call_of.Goals as goal
 
-pub returns-then-kind-eq-ADMIT : goal.returns-then-kind-eq-ADMIT
+pub returns-in-Admit : goal.returns-in-Admit
 unfolding desk_call call_asked ask_of figures_behind the place_of code forms
-returns-then-kind-eq-ADMIT c = rw (c.if-kind-eq-ADMIT.true, c.admission_of.ensures)
+returns-in-Admit c = rw (c.in-Admit.is, c.admission_of.ensures)
 
-pub returns-then-kind-eq-EVALUATE : goal.returns-then-kind-eq-EVALUATE
+pub returns-in-Evaluate : goal.returns-in-Evaluate
 unfolding desk_call call_asked ask_of figures_behind the place_of code forms
-returns-then-kind-eq-EVALUATE c = rw (c.if-kind-eq-EVALUATE.true, c.number_at-id.ensures, c.asked_of.ensures)
+returns-in-Evaluate c = rw (c.in-Evaluate.is, c.number_at-id.ensures, c.asked_of.ensures)
 
-pub returns-then-kind-eq-QUOTE : goal.returns-then-kind-eq-QUOTE
+pub returns-in-Quote : goal.returns-in-Quote
 unfolding desk_call call_asked ask_of figures_behind the place_of code forms
-returns-then-kind-eq-QUOTE c = rw (c.if-kind-eq-QUOTE.true, c.number_at-id-then-kind-eq-QUOTE.ensures, c.quote_of.ensures)
+returns-in-Quote c = rw (c.in-Quote.is, c.number_at-id-in-Quote.ensures, c.quote_of.ensures)
 
-pub returns-then-kind-eq-MOVE : goal.returns-then-kind-eq-MOVE
+pub returns-in-Move : goal.returns-in-Move
 unfolding desk_call call_asked ask_of figures_behind the place_of code forms
-returns-then-kind-eq-MOVE c = rw (c.if-kind-eq-MOVE.true, c.number_at-id-then-kind-eq-MOVE.ensures, c.number_at.ensures)
+returns-in-Move c = rw (c.in-Move.is, c.number_at-id-in-Move.ensures, c.number_at.ensures)
 
-pub returns-then-kind-eq-READ : goal.returns-then-kind-eq-READ
+pub returns-in-Read : goal.returns-in-Read
 unfolding desk_call call_asked ask_of figures_behind the place_of code forms
-returns-then-kind-eq-READ c = rw (c.if-kind-eq-READ.true, c.number_at-then-kind-eq-READ.ensures)
+returns-in-Read c = rw (c.in-Read.is, c.number_at-in-Read.ensures)
 
-pub returns-then-kind-eq-OPEN : goal.returns-then-kind-eq-OPEN
+pub returns-in-Open : goal.returns-in-Open
 unfolding desk_call call_asked ask_of figures_behind the place_of code forms
-returns-then-kind-eq-OPEN c = rw (c.if-kind-eq-OPEN.true, c.number_at-then-kind-eq-OPEN.ensures)
+returns-in-Open c = rw (c.in-Open.is, c.number_at-in-Open.ensures)
 
-pub returns-then-kind-eq-OUTSIDE : goal.returns-then-kind-eq-OUTSIDE
+pub returns-in-Outside : goal.returns-in-Outside
 unfolding desk_call call_asked ask_of figures_behind the place_of code forms
-returns-then-kind-eq-OUTSIDE c = rw (c.if-kind-eq-OUTSIDE.true, c.number_at-id-then-kind-eq-OUTSIDE.ensures, c.outside_of.ensures)
+returns-in-Outside c = rw (c.in-Outside.is, c.number_at-id-in-Outside.ensures, c.outside_of.ensures)
 
-pub returns-then-kind-eq-NOTICE : goal.returns-then-kind-eq-NOTICE
+pub returns-in-Notice : goal.returns-in-Notice
 unfolding desk_call the place_of code forms
-returns-then-kind-eq-NOTICE c =
+returns-in-Notice c =
     let zs = c.args.zs.now in
     rw (
-      c.if-kind-eq-NOTICE.true,
-      ← c.number_at-id-then-kind-eq-NOTICE.ensures,
-      ← c.number_at-then-kind-eq-NOTICE.ensures,
+      c.in-Notice.is,
+      ← c.number_at-id-in-Notice.ensures,
+      ← c.number_at-side.ensures,
       ← c.float_at.ensures,
     ) (c.notice_of.ensures (drop evaluate_count zs))
 
-pub returns : goal.returns
+-- a line of a withdrawal, and of a kind that is no call of the desk
+withdrawn : (k : Kept) (x : CallKind) (zs rows : List ℤ) (p : Pairs) (id : ℕ)
+    → (x ≡ kind.Withdraw) ⊎ ((x ≡ kind.Interest) ⊎ (x ≡ kind.Bond)) → id ≡ unsigned_at zs 0
+    → call_asked (asked.About id (about.Notify sent.Withdrawal)) rows ≡ desk_call k (kind_number x) zs p
 unfolding desk_call call_asked ask_of figures_behind the place_of code forms
-returns c =
-    rw (
-      ne_eqb _ _ c.if-kind-eq-ADMIT.false,
-      ne_eqb _ _ c.if-kind-eq-EVALUATE.false,
-      ne_eqb _ _ c.if-kind-eq-QUOTE.false,
-      ne_eqb _ _ c.if-kind-eq-MOVE.false,
-      ne_eqb _ _ c.if-kind-eq-READ.false,
-      ne_eqb _ _ c.if-kind-eq-OPEN.false,
-      ne_eqb _ _ c.if-kind-eq-OUTSIDE.false,
-      ne_eqb _ _ c.if-kind-eq-NOTICE.false,
-      c.number_at-id-2.ensures,
-    )
+withdrawn k x zs rows p id (inl e) h = rw (e, h)
+withdrawn k x zs rows p id (inr (inl e)) h = rw (e, h)
+withdrawn k x zs rows p id (inr (inr e)) h = rw (e, h)
+
+pub returns-in-Withdraw : goal.returns-in-Withdraw
+returns-in-Withdraw c = withdrawn _ _ _ _ _ _ c.in-Withdraw.is c.number_at-id-in-Withdraw.ensures

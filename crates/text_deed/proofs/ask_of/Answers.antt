@@ -2,21 +2,18 @@
 use Rattle.text_deed.proofs.Asking.{asks_nothing, asks_no_call, asks_call, asks_interest, asks_bond}
 use Rattle.text_deed.proofs.ask_of.Goals as goal
 
-pub returns-then-kind-eq-BLANK : goal.returns-then-kind-eq-BLANK
-returns-then-kind-eq-BLANK c = asks_nothing _ _ _ _ c.if-kind-eq-BLANK.true
+pub returns-in-Blank : goal.returns-in-Blank
+returns-in-Blank c = asks_nothing _ _ _ c.in-Blank.is
 
-pub returns-then-kind-eq-BAD : goal.returns-then-kind-eq-BAD
-returns-then-kind-eq-BAD c = asks_no_call _ _ _ _ c.if-kind-eq-BAD.true
+pub returns-in-Bad : goal.returns-in-Bad
+returns-in-Bad c = asks_no_call _ _ _ c.in-Bad.is
 
-pub returns-then-kind-eq-INTEREST : goal.returns-then-kind-eq-INTEREST
-returns-then-kind-eq-INTEREST c =
-    asks_interest _ _ _ _ c.if-kind-eq-BLANK.false c.if-kind-eq-BAD.false _ c.if-kind-eq-INTEREST.true c.interest_of.ensures
+pub returns-in-Interest : goal.returns-in-Interest
+returns-in-Interest c = asks_interest _ _ _ _ _ c.in-Call.is _ c.in-Interest.is c.interest_of.ensures
 
-pub returns-then-kind-eq-BOND : goal.returns-then-kind-eq-BOND
-returns-then-kind-eq-BOND c =
-    asks_bond _ _ _ _ c.if-kind-eq-BLANK.false c.if-kind-eq-BAD.false _ c.if-kind-eq-BOND.true c.bond_of.ensures
+pub returns-in-Bond : goal.returns-in-Bond
+returns-in-Bond c = asks_bond _ _ _ _ _ c.in-Call.is _ c.in-Bond.is c.bond_of.ensures
 
-pub returns : goal.returns
-returns c =
-    asks_call _ _ _ _ c.if-kind-eq-BLANK.false c.if-kind-eq-BAD.false _ c.if-kind-eq-INTEREST.false c.if-kind-eq-BOND.false
-    c.call_of.ensures
+pub returns-in_default : goal.returns-in_default
+returns-in_default c =
+    asks_call _ _ _ _ _ c.in-Call.is _ c.in_default.not-Interest c.in_default.not-Bond c.call_of.ensures

@@ -26,7 +26,7 @@ returns-then-i-gt-LONGEST c =
     record {
       line = _;
       next = next_readied p (next_long _ _ p.stands h front over _ _ q);
-      says = long_says _ _ p.stands h front over _ _ q _ _ c.requires.1 c.bad.ensures;
+      says = long_says _ _ p.stands h front over _ _ q;
       there = record { low = omega arith; high = omega arith; short = omega arith; is = inr (long_is_long _ _ p.stands h front over _ _ q) };
     }
 

@@ -22,7 +22,7 @@ returns c =
     let noted = c.guess_in-noted.ensures ∙ ap (λ i. get_or c.args.places.now (entry_of i) 0) id in
     let near = c.place_near-at.ensures ∙ ap₂ (place_near c.args.t.now) c.place_noted-guess.ensures id in
     let note = c.note_in.ensures ∙ ap₂ (λ i n. set c.args.places.now (entry_of i) n) id c.note_of-note.ensures in (
-      subst (λ (rows : List ℤ). Asks c.args.asked c.args.a rows c.args.t.now c.ask.result c.ask.new.t) c.rows_in.ensures
+      subst (λ (rows : List ℤ). Asks c.args.asked c.args.a rows c.args.t.now c.ask.result c.ask.new.t) c.rows_of.ensures
           (performed c.args.t.now c.args.places.now c.args.a _ _ _ _ c.requires noted near c.is_noted-known.ensures
           c.good_at-good.ensures c.args.asked _ _ _ c.ask.ensures),
       subst (Sound c.ask.new.t) (sym note)

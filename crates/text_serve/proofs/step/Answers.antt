@@ -4,4 +4,4 @@ use Rattle.text_serve.proofs.Turning.{turned}
 use Rattle.text_serve.proofs.step.Goals as goal
 
 pub returns : goal.returns
-returns c = (turned _ _ c.hear_in-p.ensures refl c.asked_in-a.ensures.0 c.tell.ensures, c.asked_in-a.ensures.1)
+returns c = (turned _ _ c.prepare-p.ensures refl c.asked_in-a.ensures.0 c.tell.ensures, c.asked_in-a.ensures.1)
