@@ -4,7 +4,8 @@
 
 use text_word::same_bytes;
 
-// What the arguments ask for: the lines; the lines, and one whole stream; or nothing that there is.
+// What the arguments ask for: the lines; the lines, and one whole stream; or nothing that there is. Its words say more
+// than an Option of a flag would.
 #[derive(Drop)]
 enum Listens {
     Lines,

@@ -66,7 +66,8 @@ fn end_fits(s: Stream, m: Message) -> bool
     s.began & (count_said(m) == s.count) & (sum_said(m) == (s.sum as u64))
 }
 
-// The number that is answered: 21, 22 and 23 as of every message, and then 25.
+// The number that is answered: 21, 22 and 23 as of every message, and then 25. It is 0 where none is, and no Option, as
+// the definitions `number_in` and `line_of` have it.
 pub fn number_in(s: Stream, heard: Result<Heard, Verdict>) -> u64
     ensures { result ≡ number_in s heard }
 {

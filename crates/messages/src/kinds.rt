@@ -346,7 +346,8 @@ fn kind_of(kind: u64) -> MessageKind
     }
 }
 
-// The fields of a kind; past the last a place has no bytes and holds 0.
+// The fields of a kind; past the last a place has no bytes and holds 0. They are filled up, as the definition `places_of`
+// fills them: a message is valid only with zeros there.
 pub fn places_of(kind: u64) -> [Field; Message::PLACES]
     ensures { result ≡ places_of kind }
 {

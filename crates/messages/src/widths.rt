@@ -15,7 +15,8 @@ const IN_BYTE: u64 = 256;
 // The widest number, of 64 bits, has so many bytes.
 const WIDTH_MOST: usize = 8;
 
-// The greatest number of each width, from none to the widest: 256^width - 1.
+// The greatest number of each width, from none to the widest: 256^width - 1. They stay as a table: no shift
+// gives both the first and the last.
 const GREATEST: [u64; WIDTH_MOST + 1] = [
     0,
     255,
@@ -49,22 +50,14 @@ pub fn put_number(buf: &mut [u8], at: usize, width: usize, number: u64)
     }
 }
 
-fn wide(b: u8) -> u64
-    ensures { result ≡ b }
-{
-    b as u64
-}
-
 // The number that the bytes at `at` spell, taken from the highest byte down.
 pub fn get_number(buf: &[u8], at: usize, width: usize) -> u64
     requires { (at + width ≤ length buf.now) × (width ≤ width_most) }
     ensures { (result ≡ spelled (take width (drop at buf.now))) × (result < in_width width) }
 {
-    let mut i = width;
     let mut number: u64 = 0;
-    while 0 < i {
-        i -= 1;
-        number = number * IN_BYTE + wide(buf[at + i]);
+    for i in (0..width).rev() {
+        number = number * IN_BYTE + u64::from(buf[at + i]);
     }
     number
 }
