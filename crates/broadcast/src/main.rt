@@ -4,29 +4,9 @@
 // are performed and not told.
 #![tactic(auto)]
 
+use program_words::Word;
 use text_protocol::Item;
 use text_word::same_bytes;
-
-// No argument is longer on Linux.
-const WORD_ROOM: usize = 131_072;
-
-fn word_buffer() -> [u8; WORD_ROOM] {
-    [0; WORD_ROOM]
-}
-
-// The i-th word as a number.
-fn number_at(rt: HostRuntime, i: usize) -> Item {
-    let mut word = word_buffer();
-    let n = text_evidence::arg(rt, i, &mut word);
-    text_word::item_of(&word[..n])
-}
-
-// Whether the i-th word is `--from`.
-fn is_from(rt: HostRuntime, i: usize) -> bool {
-    let mut word = word_buffer();
-    let n = text_evidence::arg(rt, i, &mut word);
-    same_bytes(&word[..n], b"--from")
-}
 
 // The line whose messages are the first that are told, by its number from 1 on; none where the words say none.
 fn first_told(rt: HostRuntime) -> Option<u64> {
@@ -34,10 +14,10 @@ fn first_told(rt: HostRuntime) -> Option<u64> {
     if count <= 1 {
         return Some(1);
     }
-    if count != 3 || !is_from(rt, 1) {
+    if count != 3 || !same_bytes(Word::at(rt, 1).as_slice(), b"--from") {
         return None;
     }
-    match number_at(rt, 2) {
+    match text_word::item_of(Word::at(rt, 2).as_slice()) {
         Item::One(n) if 1 <= n => Some(exact::unsigned(n)),
         _ => None,
     }

@@ -2,6 +2,7 @@
 // output. With the argument --whole it says on standard error where the input is not one whole stream.
 #![tactic(auto)]
 
+use program_words::Word;
 use text_word::same_bytes;
 
 // What the arguments ask for: the lines; the lines, and one whole stream; or nothing that there is. Its words say more
@@ -13,17 +14,12 @@ enum Listens {
     Not,
 }
 
-// A longer word is none that is known.
-const WORD_ROOM: usize = 16;
-
 fn asked(rt: HostRuntime) -> Listens {
     let count = text_evidence::arg_count(rt);
     if count < 2 {
         return Listens::Lines;
     }
-    let mut word = [0; WORD_ROOM];
-    let n = text_evidence::arg(rt, 1, &mut word);
-    if (count == 2) & same_bytes(&word[..n], b"--whole") {
+    if count == 2 && same_bytes(Word::at(rt, 1).as_slice(), b"--whole") {
         return Listens::Whole;
     }
     Listens::Not

@@ -9,6 +9,7 @@ ghost use Rattle.night_serve.specs.Serving.{OfWord, Asks, Answered};
 use night_protocol::{TEXT_MOST, WORDS_MOST};
 use night_serve::reading::Securities;
 use night_serve::{Served, Sheet};
+use program_words::{Word, report};
 use text_line::Taken;
 use text_out::Text;
 use text_protocol::{Item, Pairs};
@@ -28,15 +29,6 @@ fn numbers_buffer() -> [i64; WORDS_MOST]
     [0; WORDS_MOST]
 }
 
-// No argument is longer on Linux.
-const WORD_ROOM: usize = 131_072;
-
-fn word_buffer() -> [u8; WORD_ROOM]
-    ensures { 131072 ≡ length result }
-{
-    [0; WORD_ROOM]
-}
-
 // ---- the words
 
 fn say_usage(rt: HostRuntime) {
@@ -49,9 +41,7 @@ fn say_usage(rt: HostRuntime) {
 fn word_at(rt: HostRuntime, i: usize) -> Item
     ensures { OfWord result }
 {
-    let mut word = word_buffer();
-    let n = text_evidence::arg(rt, i, &mut word);
-    text_word::item_of(&word[..n])
+    text_word::item_of(Word::at(rt, i).as_slice())
 }
 
 // What the words ask for.
@@ -96,21 +86,12 @@ fn say_fault(rt: HostRuntime, line: u64) {
     let _ = rt.stderr().write_all(out.as_slice());
 }
 
-fn say_failed(rt: HostRuntime, wrote: bool) {
-    let failed = if wrote { "read" } else { "write" };
-    let _ = eprintln!(rt; "night: could not {failed}");
-}
-
 // Says on standard error where the text is bad, and where a read or a write failed.
-fn report(rt: HostRuntime, served: Served) {
-    let read = served.read;
-    let told = served.told;
+fn tell(rt: HostRuntime, served: Served) {
     if let Some(line) = served.fault {
         say_fault(rt, line);
     }
-    if read.has_failed() | !told.took_all() {
-        say_failed(rt, told.took_all());
-    }
+    report(rt, "night", served.read, served.told);
 }
 
 fn main(rt: HostRuntime) {
@@ -119,7 +100,7 @@ fn main(rt: HostRuntime) {
     let count = a.count;
     let pairs = a.pairs;
     if a.ok {
-        report(rt, serve(rt, &numbers[..count], pairs));
+        tell(rt, serve(rt, &numbers[..count], pairs));
     } else {
         say_usage(rt);
     }
