@@ -51,7 +51,9 @@ pub fn find(ids: &[u64], id: u64, last: usize) -> Option<usize>
 
 impl Securities {
     // None yet.
-    pub fn new() -> Securities {
+    pub fn new() -> Securities
+        ensures { result.count ≡ 0 }
+    {
         Securities {
             count: 0,
             ids: [0; IDS_ROOM],

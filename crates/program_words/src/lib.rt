@@ -26,10 +26,12 @@ impl Model for Word {
 }
 
 impl Word {
-    ghost use Rattle.std.specs.Prelude.{◌≡◌};
+    ghost use Rattle.std.specs.Prelude.{◌≡◌, ◌≤◌, length};
 
     // The i-th word, the program's name at 0; empty where there is no such word.
-    pub fn at(rt: HostRuntime, i: usize) -> Word {
+    pub fn at(rt: HostRuntime, i: usize) -> Word
+        ensures { length result ≤ 131072 }
+    {
         let mut bytes = [0; WORD_ROOM];
         let length = arg(rt, i, &mut bytes);
         Word { bytes, length }
