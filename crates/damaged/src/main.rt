@@ -79,104 +79,82 @@ fn sound(id: u64) -> Record {
 }
 
 // One static out of its range, order or step.
-fn with_statics(slot: usize, r: Record) -> Record {
-    let mut st = r.statics;
+fn with_static(slot: usize, r: Record) -> Record {
+    let mut statics = r.statics;
     match slot {
-        0 => st.lot = 0,
-        1 => st.h = 0,
-        2 => st.smax = 4_050,
-        3 => st.rh1 = 6,
-        4 => st.rh3 = 4,
-        _ => st.u = 3_601,
+        0 => statics.lot = 0,
+        1 => statics.h = 0,
+        2 => statics.smax = 4_050,
+        3 => statics.rh1 = 6,
+        4 => statics.rh3 = 4,
+        _ => statics.u = 3_601,
     }
-    let mut o = r;
-    o.statics = st;
-    o
-}
-
-fn with_prices(r: Record, p1: u64, p2: u64) -> Record {
-    let later = Price { units: p1 };
-    let earlier = Price { units: p2 };
-    let mut o = r;
-    o.p1 = later;
-    o.p2 = earlier;
-    o
-}
-
-fn with_tentative(r: Record, bp: u64, age: u64) -> Record {
-    let tentative = Tentative { bp, age };
-    let mut o = r;
-    o.tentative = tentative;
-    o
-}
-
-fn with_moves(r: Record, upper: u64, lower: u64) -> Record {
-    let moves = Moves { upper, lower };
-    let mut o = r;
-    o.moves = moves;
-    o
-}
-
-fn with_volatility(r: Record, s: u64) -> Record {
-    let mut o = r;
-    o.s = s;
-    o
-}
-
-fn with_second(r: Record, second: u64) -> Record {
-    let mut o = r;
-    o.second = second;
-    o
-}
-
-fn with_external(r: Record, bid: u64, ask: u64) -> Record {
-    let external = External { bid, ask };
-    let mut o = r;
-    o.external = external;
-    o
+    Record { statics, ..r }
 }
 
 // One figure out of its range, its step or the grid.
 fn with_figure(slot: usize, r: Record) -> Record {
     match slot {
-        6 => with_prices(r, 0, 1_000_000),
-        7 => with_prices(r, 1_030_005, 1_000_000),
-        8 => with_prices(r, 1_030_000, Price::MOST_UNITS + 10),
-        9 => with_volatility(r, Record::VOLATILITY_MOST + 1),
+        6 => Record {
+            p1: Price { units: 0 },
+            ..r
+        },
+        7 => Record {
+            p1: Price { units: 1_030_005 },
+            ..r
+        },
+        8 => Record {
+            p2: Price {
+                units: Price::MOST_UNITS + 10,
+            },
+            ..r
+        },
+        9 => Record {
+            s: Record::VOLATILITY_MOST + 1,
+            ..r
+        },
         10 => with_tentative(r, Tentative::MOST_BP + 100, 0),
         11 => with_tentative(r, 650, 0),
         12 => with_tentative(r, 700, Record::AGE_MOST + 1),
-        13 => with_moves(r, 0, Record::MOVES_MOST + 1),
-        _ => with_second(r, Record::SECOND_LAST + 1),
+        13 => Record {
+            moves: Moves {
+                upper: 0,
+                lower: Record::MOVES_MOST + 1,
+            },
+            ..r
+        },
+        _ => Record {
+            second: Record::SECOND_LAST + 1,
+            ..r
+        },
     }
 }
 
-fn with_rate(r: Record, bp: u64) -> Record {
-    let rates = [Rate { bp: 800 }, Rate { bp: 1_200 }, Rate { bp }];
-    let mut o = r;
-    o.rates = rates;
-    o
+fn with_tentative(r: Record, bp: u64, age: u64) -> Record {
+    Record {
+        tentative: Tentative { bp, age },
+        ..r
+    }
 }
 
 fn with_ranges(r: Record, lower: u64, upper: u64) -> Record {
     let ranges = [Limits { lower, upper }; Record::LEVELS];
-    let mut o = r;
-    o.ranges = ranges;
-    o
+    Record { ranges, ..r }
 }
 
 fn with_terms(r: Record, k: u64, low: i64) -> Record {
     let terms = [Term { k, low, high: 0 }; Record::TERMS];
-    let mut o = r;
-    o.terms = terms;
-    o
+    Record { terms, ..r }
 }
 
 fn with_bands(r: Record, lower: u64, upper: u64) -> Record {
     let bands = [Limits { lower, upper }; Record::TERMS];
-    let mut o = r;
-    o.bands = bands;
-    o
+    Record { bands, ..r }
+}
+
+fn with_rate(r: Record, bp: u64) -> Record {
+    let rates = [Rate { bp: 800 }, Rate { bp: 1_200 }, Rate { bp }];
+    Record { rates, ..r }
 }
 
 fn with_near(r: Record, second: u64) -> Record {
@@ -184,9 +162,7 @@ fn with_near(r: Record, second: u64) -> Record {
         top: None,
         bottom: Some(second),
     }; Record::TERMS];
-    let mut o = r;
-    o.near = near;
-    o
+    Record { near, ..r }
 }
 
 // One of the three rates, ranges, terms, bands or near seconds.
@@ -205,22 +181,44 @@ fn with_three(slot: usize, r: Record) -> Record {
 // A sound record at the ends of its ranges, its bands crossed: what lies one past each of them stands in the slots
 // before.
 fn at_the_ends(id: u64, session: Session) -> Record {
-    let r = with_tentative(in_session(id, session), 4_000, Record::AGE_MOST);
-    let r = with_moves(r, Record::MOVES_MOST, Record::MOVES_MOST);
-    let r = with_bands(r, Limit::MOST_UNITS, 0);
-    let r = with_external(r, Price::MOST_UNITS, Price::MOST_UNITS);
-    with_second(r, Record::SECOND_LAST)
+    let bands = [Limits {
+        lower: Limit::MOST_UNITS,
+        upper: 0,
+    }; Record::TERMS];
+    Record {
+        tentative: Tentative {
+            bp: 4_000,
+            age: Record::AGE_MOST,
+        },
+        moves: Moves {
+            upper: Record::MOVES_MOST,
+            lower: Record::MOVES_MOST,
+        },
+        bands,
+        external: External {
+            bid: Price::MOST_UNITS,
+            ask: Price::MOST_UNITS,
+        },
+        second: Record::SECOND_LAST,
+        ..in_session(id, session)
+    }
 }
 
 // Slots 0 to 23 hold one damage each, under the ids 100 to 123; then duplicates of 700 and 701, an id past its range,
 // and the ends, in the main session and in the evening.
 fn record_of(slot: usize) -> Record {
     match slot {
-        0..=5 => with_statics(slot, sound(100 + slot as u64)),
+        0..=5 => with_static(slot, sound(100 + slot as u64)),
         6..=14 => with_figure(slot, sound(100 + slot as u64)),
         15..=21 => with_three(slot, sound(100 + slot as u64)),
         22 => in_session(122, Session::Evening(Statics::EVENING_MOVES_MOST + 1)),
-        23 => with_external(sound(123), 0, Price::MOST_UNITS + 1),
+        23 => Record {
+            external: External {
+                bid: 0,
+                ask: Price::MOST_UNITS + 1,
+            },
+            ..sound(123)
+        },
         24 => with_figure(9, sound(700)),
         25 => sound(700),
         26 => sound(701),
@@ -233,11 +231,8 @@ fn record_of(slot: usize) -> Record {
 
 fn table() -> [Record; Record::SLOTS_MOST] {
     let mut t = text_serve::fresh();
-    let mut slot: usize = 0;
-    while slot < 31 {
-        let r = record_of(slot);
-        t[slot] = r;
-        slot += 1;
+    for (slot, r) in t.iter_mut().take(31).enumerate() {
+        *r = record_of(slot);
     }
     t
 }
