@@ -8,9 +8,8 @@ ghost use Rattle.night_serve.specs.Serving.{OfWord, Asks, Answered};
 
 use night_protocol::{TEXT_MOST, WORDS_MOST};
 use night_serve::reading::Securities;
-use night_serve::{Served, Sheet};
+use night_serve::{Served, Sheet, Taken};
 use program_words::{Word, report};
-use text_line::Taken;
 use text_out::Text;
 use text_protocol::{Item, Pairs};
 
