@@ -109,8 +109,9 @@ code_for() { # TRIPLE
 }
 
 text_for() { # TRIPLE NAME
-    case $1 in wasm32-*) pairs=wide_pairs ;; *) pairs=cat ;; esac
-    sed -e '/^target datalayout/d' -e "s/^target triple.*/target triple = \"$1\"/" \
+    # In WebAssembly a pointer becomes a number of eight bytes by `ptrtoint`: `ptrtoaddr` asks that it has eight itself.
+    case $1 in wasm32-*) pairs=wide_pairs numbers='s/ptrtoaddr/ptrtoint/g' ;; *) pairs=cat numbers= ;; esac
+    sed -e "$numbers" -e '/^target datalayout/d' -e "s/^target triple.*/target triple = \"$1\"/" \
         -e 's/"target-cpu"="[^"]*"//g; s/"target-features"="[^"]*"//g' "$(code_for "$1")/$2.ll" | $pairs
 }
 
