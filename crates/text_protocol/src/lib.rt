@@ -5,6 +5,7 @@
 
 ghost use Rattle.std.specs.Prelude.{◌≡◌};
 ghost use Rattle.text_protocol.specs.Calls.{role_of};
+ghost use Rattle.text_protocol.specs.Kinds.{kind_number, kind_at};
 
 use paper::{Admission, Answer, AskedAbout, AskedDay, Interest, Row, Side, WorkedBand};
 use paper_bonds::Bond;
@@ -229,6 +230,76 @@ pub enum CallKind {
     Withdraw,
     Interest,
     Bond,
+}
+
+// The number of each, its place in the table of the calls' forms, counted from 1.
+impl CallKind {
+    pub const ADMIT: u64 = 1;
+
+    pub const EVALUATE: u64 = 2;
+
+    pub const QUOTE: u64 = 3;
+
+    pub const MOVE: u64 = 4;
+
+    pub const READ: u64 = 5;
+
+    pub const OPEN: u64 = 6;
+
+    pub const OUTSIDE: u64 = 7;
+
+    pub const NOTICE: u64 = 8;
+
+    pub const WITHDRAW: u64 = 9;
+
+    pub const INTEREST: u64 = 10;
+
+    pub const BOND: u64 = 11;
+
+    // No call: a line with no word, and one that says no call. A call more leaves these two as they are.
+    pub const BLANK: u64 = 100;
+
+    pub const BAD: u64 = 101;
+
+    // The number of a call.
+    pub fn number(self) -> u64
+        ensures { result ≡ kind_number self }
+    {
+        match self {
+            CallKind::Admit => CallKind::ADMIT,
+            CallKind::Evaluate => CallKind::EVALUATE,
+            CallKind::Quote => CallKind::QUOTE,
+            CallKind::Move => CallKind::MOVE,
+            CallKind::Read => CallKind::READ,
+            CallKind::Open => CallKind::OPEN,
+            CallKind::Outside => CallKind::OUTSIDE,
+            CallKind::Notice => CallKind::NOTICE,
+            CallKind::Withdraw => CallKind::WITHDRAW,
+            CallKind::Interest => CallKind::INTEREST,
+            CallKind::Bond => CallKind::BOND,
+        }
+    }
+
+    // The call of a number, where it is one's.
+    #[tactic(auto, unfolding(crate::specs::Kinds::kind_at))]
+    pub fn of(number: u64) -> Option<CallKind>
+        ensures { result ≡ kind_at number }
+    {
+        match number {
+            CallKind::ADMIT => Some(CallKind::Admit),
+            CallKind::EVALUATE => Some(CallKind::Evaluate),
+            CallKind::QUOTE => Some(CallKind::Quote),
+            CallKind::MOVE => Some(CallKind::Move),
+            CallKind::READ => Some(CallKind::Read),
+            CallKind::OPEN => Some(CallKind::Open),
+            CallKind::OUTSIDE => Some(CallKind::Outside),
+            CallKind::NOTICE => Some(CallKind::Notice),
+            CallKind::WITHDRAW => Some(CallKind::Withdraw),
+            CallKind::INTEREST => Some(CallKind::Interest),
+            CallKind::BOND => Some(CallKind::Bond),
+            _ => None,
+        }
+    }
 }
 
 // What a word behind the call's is: one number, a pair of terms Ym/Yn, or neither.
