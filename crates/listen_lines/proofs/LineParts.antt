@@ -1,12 +1,14 @@
 -- What the functions need, on plain values: the parts of a line, one after the other, and the line of what is heard, by
 -- the number that is answered.
 use mathlib.Core.Path.{◌≡◌}
+use mathlib.Core.Bool.{true, false}
 use mathlib.Core.List.{List, [], ◌∷◌}
 use Prim.Native.Nat.{ℕ, ◌+◌, ◌≤◌}
 use lib.IntN.{ℤ, pos}
 use lib.ListN.{length, take}
 use borrow.Author.Tests.{eq-eqb, ne_eqb}
 use Rattle.paper_messages.specs.declared.Message.{Message}
+use Rattle.paper_messages.specs.declared.ReaderAnswer.{ReaderAnswer}
 use Rattle.paper_messages.specs.Fields.{end_message_kind, fields_of, kind_word}
 use Rattle.paper_streams.specs.Streams.{count_said, sum_said}
 use Rattle.text_bytes.specs.Bytes.{line_feed}
@@ -14,10 +16,6 @@ use Rattle.text_out.specs.Wrote.{Wrote, then, wider}
 use Rattle.text_out.specs.Told.{Told, wrote}
 use Rattle.listen_lines.specs.Lines.{unknown_word, refused_word, word_line, fields_in, numbers_in, line_of}
 use Rattle.listen_lines.specs.Lines.{line_most}
-use Rattle.paper.specs.declared.Verdict.{Verdict}
-use Rattle.paper_messages.specs.declared.Heard.{Heard}
-use Rattle.paper_messages.specs.Messages.{Hearing}
-use Rattle.std.specs.Prelude.{Ok, Err, Some, None}
 
 -- a word, numbers and the end of the line
 pub word_line_written : {b : List ℕ} {n : ℕ} {b' : List ℕ} {n' : ℕ} {b'' : List ℕ} {n'' : ℕ} {c : List ℕ} {e : ℕ}
@@ -52,26 +50,20 @@ unfolding numbers_in
 other_line_written m h p = rw (ne_eqb m.kind end_message_kind h) p
 
 -- ---- the line of what is heard
-pub refused_line_written : (h : Hearing) (number place : ℕ) {b c : List ℕ} {n e : ℕ} → (number ≡ 0 → ⊥)
-    → Wrote b n c e (word_line refused_word (pos number ∷ pos place ∷ [])) line_most
-    → Wrote b n c e (line_of place number h) line_most
-unfolding line_of
-refused_line_written h number place z p = rw (ne_eqb number 0 z) p
-
-module _ (number place : ℕ) (z : number ≡ 0) {b c : List ℕ} {n e : ℕ} where
-  pub known_line_written : (h : Heard) (m : Message) → h.message ≡ Some m
-      → Wrote b n c e (word_line (kind_word m.kind) (numbers_in m)) line_most
-      → Wrote b n c e (line_of place number (Ok h)) line_most
+module _ (h : ReaderAnswer) (no place : ℕ) {b c : List ℕ} {n e : ℕ} where
+  pub refused_line_written : (no ≡ 0 → ⊥) → Wrote b n c e (word_line refused_word (pos no ∷ pos place ∷ [])) line_most
+      → Wrote b n c e (line_of place no h) line_most
   unfolding line_of
-  known_line_written h m is p = rw (eq-eqb number 0 z, is) p
+  refused_line_written z p = rw (ne_eqb no 0 z) p
 
-  pub unknown_line_written : (h : Heard) → h.message ≡ None
+  pub known_line_written : no ≡ 0 → h.known ≡ true
+      → Wrote b n c e (word_line (kind_word h.message.kind) (numbers_in h.message)) line_most
+      → Wrote b n c e (line_of place no h) line_most
+  unfolding line_of
+  known_line_written z k p = rw (eq-eqb no 0 z, k) p
+
+  pub unknown_line_written : no ≡ 0 → h.known ≡ false
       → Wrote b n c e (word_line unknown_word (pos h.kind ∷ pos h.length ∷ [])) line_most
-      → Wrote b n c e (line_of place number (Ok h)) line_most
+      → Wrote b n c e (line_of place no h) line_most
   unfolding line_of
-  unknown_line_written h is p = rw (eq-eqb number 0 z, is) p
-
-  pub no_line_written : (v : Verdict) → Wrote b n c e (word_line unknown_word (pos 0 ∷ pos 0 ∷ [])) line_most
-      → Wrote b n c e (line_of place number (Err v)) line_most
-  unfolding line_of
-  no_line_written v p = rw (eq-eqb number 0 z) p
+  unknown_line_written z k p = rw (eq-eqb no 0 z, k) p

@@ -3,13 +3,13 @@
 use Rattle.std.specs.Prelude.{List, [], ◌∷◌, ◌++◌, ℕ, ◌+◌, eqb, ℤ, pos, length, take}
 use Rattle.paper.specs.Lists.{pick}
 use Rattle.paper_messages.specs.declared.Message.{Message}
+use Rattle.paper_messages.specs.declared.ReaderAnswer.{ReaderAnswer}
 use Rattle.paper_messages.specs.Fields.{end_message_kind, fields_of, kind_word}
 use Rattle.paper_streams.specs.declared.Stream.{Stream}
 use Rattle.paper_streams.specs.Streams.{count_said, sum_said}
 use Rattle.text_bytes.specs.Bytes.{line_feed}
 use Rattle.text_bytes.specs.Numbers.{spaced}
 use Rattle.text_out.specs.Sizes.{word_bytes, rows_bytes}
-use Rattle.paper_messages.specs.Messages.{Hearing, kind_heard, known_heard, length_heard, message_heard}
 
 -- "unknown", "refused", "unended"
 abbrev pub unknown_word : List ℕ
@@ -35,11 +35,11 @@ numbers_in m = pick (eqb m.kind end_message_kind) (pos (count_said m) ∷ pos (s
 
 -- THE LINE of what is heard at a place of the input, counted from 0, and answered with a number: a kind's word and its
 -- numbers, `unknown KIND LENGTH`, or `refused NUMBER PLACE`
-unfoldable pub line_of : (place number : ℕ) → Hearing → List ℕ
+unfoldable pub line_of : (place number : ℕ) → ReaderAnswer → List ℕ
 line_of place number h =
     pick (eqb number 0)
-    (pick (known_heard h) (word_line (kind_word (message_heard h).kind) (numbers_in (message_heard h)))
-    (word_line unknown_word (pos (kind_heard h) ∷ pos (length_heard h) ∷ [])))
+    (pick h.known (word_line (kind_word h.message.kind) (numbers_in h.message))
+    (word_line unknown_word (pos h.kind ∷ pos h.length ∷ [])))
     (word_line refused_word (pos number ∷ pos place ∷ []))
 
 -- THE LINE of a stream that began and has no end, `unended N`, with the number of its messages

@@ -14,8 +14,8 @@ ghost use Rattle.listen_lines.specs.Lines.{line_most};
 
 use crate::streams::{count_said, sum_said};
 use messages::kinds::{field_count, word_of};
-use paper::{Row, Verdict};
-use paper_messages::{Heard, Message};
+use paper::Row;
+use paper_messages::{Message, ReaderAnswer};
 use text_bytes::ROOM;
 use text_out::{put_byte, put_bytes, put_next, put_numbers};
 
@@ -85,27 +85,17 @@ fn say_message(out: &mut [u8; ROOM], len: usize, m: Message) -> usize
 }
 
 // What is heard at a place of the input, and answered with `no`.
-pub fn say_heard(
-    out: &mut [u8; ROOM],
-    len: usize,
-    place: u64,
-    no: u64,
-    heard: Result<Heard, Verdict>,
-) -> usize
+pub fn say_heard(out: &mut [u8; ROOM], len: usize, place: u64, no: u64, h: ReaderAnswer) -> usize
     requires { len + line_most ≤ room }
-    ensures { Wrote out.old len out.new result (line_of place no heard) line_most }
+    ensures { Wrote out.old len out.new result (line_of place no h) line_most }
 {
     if no != 0 {
         return say_two(out, len, b"refused", no, place);
     }
-    match heard {
-        Ok(h) => match h.message {
-            Some(m) => say_message(out, len, m),
-            None => say_two(out, len, b"unknown", h.kind, h.length),
-        },
-        // A refusal has a number, and is told above; `line_of` says a kind and a length of 0 of one that had none.
-        Err(_) => say_two(out, len, b"unknown", 0, 0),
+    if h.known {
+        return say_message(out, len, h.message);
     }
+    say_two(out, len, b"unknown", h.kind, h.length)
 }
 
 // A stream of so many messages that has no end.

@@ -10,7 +10,7 @@ ghost use Rattle.paper_streams.specs.Alone.{stands_alone};
 
 use exact::{magnitude, unsigned};
 use paper::Verdict;
-use paper_messages::{Heard, Message};
+use paper_messages::{Heard, Message, ReaderAnswer};
 use paper_streams::Stream;
 use sums::sum_on;
 
@@ -68,16 +68,20 @@ fn end_fits(s: Stream, m: Message) -> bool
 
 // The number that is answered: 21, 22 and 23 as of every message, and then 25. It is 0 where none is, and no Option, as
 // the definitions `number_in` and `line_of` have it.
-pub fn number_in(s: Stream, heard: Result<Heard, Verdict>) -> u64
-    ensures { result ≡ number_in s heard }
+pub fn number_in(s: Stream, h: ReaderAnswer) -> u64
+    ensures { result ≡ number_in s h }
 {
-    match heard {
-        Err(verdict) => verdict.number(),
-        Ok(h) => match h.message {
-            Some(m) if m.kind == Message::END && !end_fits(s, m) => Stream::NOT_WHOLE,
-            _ => 0,
-        },
+    let no = h.verdict.number();
+    if no != 0 {
+        return no;
     }
+    if h.kind != Message::END {
+        return 0;
+    }
+    if end_fits(s, h.message) {
+        return 0;
+    }
+    Stream::NOT_WHOLE
 }
 
 // The kind of the message that is heard: 0, which is no kind, of a refusal and of an unknown kind.
@@ -91,11 +95,11 @@ pub fn known_kind(heard: Result<Heard, Verdict>) -> u64
 }
 
 // How far the stream is heard behind a message of these bytes.
-pub fn stream_after(s: Stream, heard: Result<Heard, Verdict>, bytes: &[u8]) -> Stream
+pub fn stream_after(s: Stream, h: ReaderAnswer, bytes: &[u8]) -> Stream
     requires { s.count < past_every }
-    ensures { result ≡ stream_after s heard bytes.now }
+    ensures { result ≡ stream_after s h bytes.now }
 {
-    match known_kind(heard) {
+    match h.kind {
         Message::BEGIN => Stream {
             began: true,
             count: 1,
@@ -112,10 +116,10 @@ pub fn stream_after(s: Stream, heard: Result<Heard, Verdict>, bytes: &[u8]) -> S
 }
 
 // Whether a message may stand at a place of an input that is one stream alone.
-pub fn stands_alone(place: u64, s: Stream, heard: Result<Heard, Verdict>) -> bool
-    ensures { result ≡ stands_alone place s heard }
+pub fn stands_alone(place: u64, s: Stream, h: ReaderAnswer) -> bool
+    ensures { result ≡ stands_alone place s h }
 {
-    if known_kind(heard) == Message::BEGIN {
+    if h.kind == Message::BEGIN {
         !s.began & (place == 0)
     } else {
         s.began

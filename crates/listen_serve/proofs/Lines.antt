@@ -11,12 +11,14 @@ use lib.ListN.{length, take, drop, length-append, length-drop, drop_of_length-le
 use lib.Seq.{drop-append-le, take-append-le, take-take, drop-drop, length-take-le}
 use borrow.Author.Tests.{leb-true, leb-false, eqb-true}
 use Rattle.paper.specs.declared.Verdict.{Verdict}
+use Rattle.std.specs.Prelude.{Err}
 use Rattle.paper.specs.Lists.{pick}
 use Rattle.paper.specs.declared.Verdict.TheVariants.{CutShort}
 use Rattle.paper.specs.Verdicts.{number_of, is_done, first_of}
 use Rattle.paper.proofs.Logic.{not_true_and_false}
+use Rattle.paper_messages.specs.declared.ReaderAnswer.{ReaderAnswer}
 use Rattle.paper_messages.specs.Fields.{begin_message_kind}
-use Rattle.paper_messages.specs.Messages.{read_checks, accepted_heard, heard_at}
+use Rattle.paper_messages.specs.Messages.{read_checks, answer_of, accepted_heard, heard_at, answer_at}
 use Rattle.paper_streams.specs.declared.Stream.{Stream}
 use Rattle.paper_streams.specs.Streams.{no_stream, is_begin, number_in, stream_after, bytes_at, is_whole}
 use Rattle.paper_streams.specs.Alone.{stands_alone, ends_alone}
@@ -36,9 +38,6 @@ use Rattle.listen_serve.proofs.Places.{accepted_is_done, accepted_within, next_w
 use Rattle.listen_serve.proofs.Whole.{heard_whole_lem}
 use Rattle.listen_serve.proofs.FromOn.{stream_behind, Reader, rest, rest_none, rest_accepted, rest_refused}
 use Rattle.listen_serve.proofs.FromOn.{broken_off, lines_reader, whole_reader}
-use Rattle.paper_messages.specs.Messages.{Hearing, next_heard, verdict_of}
-use Rattle.std.specs.Prelude.{Err}
-use Rattle.paper_streams.specs.Streams.{known_kind}
 
 -- ---- what is heard in the buffer is heard in the input
 
@@ -52,14 +51,14 @@ module _ (buffer : List ℕ) (place : ℕ) (x : List ℕ) (e : drop place buffer
   heard_refused f = rw (e, f) refl
 
 -- two answers that differ in their places alone: the same number, line and stream follow from them
-record SameButPlace (h k : Hearing) : Type 0 where
+record SameButPlace (h k : ReaderAnswer) : Type 0 where
   number : (s : Stream) → number_in s h ≡ number_in s k
   line : (p no : ℕ) → line_of p no h ≡ line_of p no k
   begins : is_begin h ≡ is_begin k
   stands : (p : ℕ) (s : Stream) → stands_alone p s h ≡ stands_alone p s k
   behind : (s : Stream) (bytes : List ℕ) → stream_after s h bytes ≡ stream_after s k bytes
 
-accepted_alike : (p q : ℕ) (x : List ℕ) → SameButPlace (accepted_heard p x) (accepted_heard q x)
+accepted_alike : (p q : ℕ) (x : List ℕ) → SameButPlace (answer_of (accepted_heard p x)) (answer_of (accepted_heard q x))
 unfolding accepted_heard number_in line_of stands_alone stream_after
 accepted_alike p q x =
     record {
@@ -70,7 +69,7 @@ accepted_alike p q x =
       behind = λ s bytes. refl;
     }
 
-same_alike : (h : Hearing) → SameButPlace h h
+same_alike : (h : ReaderAnswer) → SameButPlace h h
 same_alike h =
     record {
       number = λ s. refl;
@@ -89,8 +88,8 @@ module _ (b : List ℕ) (s : Listening) (stands : Stands b s) (input later : Lis
 
   -- what is heard is the same but for its place, where it is whole or nothing comes later, and goes as far
   record Alike : Type 0 where
-    same : SameButPlace (heard_at input place) (heard_in b s)
-    size : is_done (verdict_of (heard_in b s)) ≡ true → next_heard (heard_at input place) ≡ place + (next_heard (heard_in b s) - s.at)
+    same : SameButPlace (answer_at input place) (heard_in b s)
+    size : is_done (heard_in b s).verdict ≡ true → (answer_at input place).next ≡ place + ((heard_in b s).next - s.at)
 
   abbrev first : List ℕ → Verdict
   first bytes = first_of (read_checks bytes)
@@ -104,16 +103,16 @@ module _ (b : List ℕ) (s : Listening) (stands : Stands b s) (input later : Lis
       go true f =
           let h : heard_at input place ≡ accepted_heard place (unheard b s) =
           heard_accepted input place x e (rw same f) ∙ accepted f place in
-          let k : heard_in b s ≡ accepted_heard s.at (unheard b s) =
+          let k : heard_at (take s.len b) s.at ≡ accepted_heard s.at (unheard b s) =
           heard_accepted (take s.len b) s.at (unheard b s) in_buffer f in
           record { same = rw (h, k) (accepted_alike place s.at (unheard b s)); size = λ g. rw (h, k) (omega arith) }
       go false f =
           let h : heard_at input place ≡ Err (first (unheard b s)) =
           heard_refused input place x e (rw same f) ∙ ap Err same in
-          let k : heard_in b s ≡ Err (first (unheard b s)) =
+          let k : heard_at (take s.len b) s.at ≡ Err (first (unheard b s)) =
           heard_refused (take s.len b) s.at (unheard b s) in_buffer f in
           record {
-            same = rw (h, k) (same_alike (Err (first (unheard b s))));
+            same = rw (h, k) (same_alike (answer_of (Err (first (unheard b s)))));
             size = λ g. absurd (not_true_and_false (is_done (first (unheard b s))) (rw k at g) f);
           }
 
@@ -124,8 +123,8 @@ module _ (b : List ℕ) (s : Listening) (stands : Stands b s) (input later : Lis
       alike_of (unheard b s ++ later) behind w.0 w.1
     where
       cut_of : (d : Bool) → is_done (first (unheard b s)) ≡ d
-          → eqb (number_of (verdict_of (pick (is_done (first (unheard b s))) (accepted_heard s.at (unheard b s)) (Err
-          (first (unheard b s)))))) (number_of CutShort) ≡ false
+          → is_cut (answer_of (pick (is_done (first (unheard b s))) (accepted_heard s.at (unheard b s)) (Err
+          (first (unheard b s))))) ≡ false
           → eqb (number_of (first (unheard b s))) (number_of CutShort) ≡ false
       cut_of true e h = rw (eqb-true (number_of (first (unheard b s))) 0 e) refl
       cut_of false e h = rw e at h
@@ -134,25 +133,25 @@ module _ (b : List ℕ) (s : Listening) (stands : Stands b s) (input later : Lis
 
   -- its bytes are the same too
   same_bytes : Alike → accepts s (heard_in b s) ≡ true
-      → bytes_at input place (heard_at input place) ≡ own_bytes_in b s (heard_in b s)
+      → bytes_at input place (answer_at input place) ≡ own_bytes_in b s (heard_in b s)
   unfolding unheard
   same_bytes a accepted =
-      let done : is_done (verdict_of (heard_in b s)) ≡ true = accepted_is_done s.feed.stream (heard_in b s) accepted in
+      let done : is_done (heard_in b s).verdict ≡ true = accepted_is_done s.feed.stream (heard_in b s) accepted in
       let q = next_within (take s.len b) s.at done in
       let long : length (take s.len b) ≡ s.len = length-take-le s.len b (omega (
         arith,
         stands.in_b,
         stands.long,
       )) in
-      let size : next_heard (heard_at input place) - place ≡ next_heard (heard_in b s) - s.at = rw (a.size done) (omega arith) in
-      let few : next_heard (heard_in b s) - s.at ≤ s.len - s.at = omega (arith, q.1, long) in
+      let size : (answer_at input place).next - place ≡ (heard_in b s).next - s.at = rw (a.size done) (omega arith) in
+      let few : (heard_in b s).next - s.at ≤ s.len - s.at = omega (arith, q.1, long) in
       rw (size, behind)
-      (take-append-le (next_heard (heard_in b s) - s.at) (unheard b s) later
+      (take-append-le ((heard_in b s).next - s.at) (unheard b s) later
       (rw (unheard_length b s stands) few)
-      ∙ take-take (next_heard (heard_in b s) - s.at) (s.len - s.at) (drop s.at b) few)
+      ∙ take-take ((heard_in b s).next - s.at) (s.len - s.at) (drop s.at b) few)
 
 -- at the end of what is delivered a message is cut short
-cut_at_end : (buffer : List ℕ) (place : ℕ) → length buffer ≤ place → is_cut (heard_at buffer place) ≡ true
+cut_at_end : (buffer : List ℕ) (place : ℕ) → length buffer ≤ place → is_cut (answer_at buffer place) ≡ true
 unfolding heard_at read_checks first_of is_done
 cut_at_end buffer place h = rw (drop_of_length-le buffer h) refl
 
@@ -168,7 +167,7 @@ unfolding unended_line
 none_unended s e = rw e refl
 
 -- a message that does not break off a stream tells of none
-none_broken : (s : Stream) (h : Hearing) → s.began && is_begin h ≡ false → broken_off s h ≡ []
+none_broken : (s : Stream) (h : ReaderAnswer) → s.began && is_begin h ≡ false → broken_off s h ≡ []
 none_broken s h on = go s.began refl (is_begin h) refl
   where
     go : (began : Bool) → s.began ≡ began → (begins : Bool) → is_begin h ≡ begins → broken_off s h ≡ []
@@ -177,10 +176,10 @@ none_broken s h on = go s.began refl (is_begin h) refl
     go true e true f = absurd (not_true_and_false (s.began && is_begin h) (rw (e, f) refl) on)
 
 -- of a `begin` the same is answered and heard whatever stands before it
-module _ (s : Stream) (h : Hearing) (begins : is_begin h ≡ true) where
+module _ (s : Stream) (h : ReaderAnswer) (begins : is_begin h ≡ true) where
   begin_number : number_in s h ≡ number_in no_stream h
   unfolding number_in
-  begin_number = rw (eqb-true (known_kind h) begin_message_kind begins) refl
+  begin_number = rw (eqb-true h.kind begin_message_kind begins) refl
 
   begin_behind : (bytes : List ℕ) → stream_after s h bytes ≡ stream_after no_stream h bytes
   unfolding stream_after
@@ -243,7 +242,7 @@ module _ {b : List ℕ} {s : Listening} {got text : List ℕ} (so : Sofar b s go
   there (inl whole) = some_left whole
   there (inr e) = e.1
 
-  abbrev h : Hearing
+  abbrev h : ReaderAnswer
   h = heard_in b s
 
   -- what is heard at the place, in all that is delivered and what comes later
@@ -251,8 +250,8 @@ module _ {b : List ℕ} {s : Listening} {got text : List ℕ} (so : Sofar b s go
     abbrev input : List ℕ
     input = got ++ later
 
-    abbrev heard : Hearing
-    heard = heard_at input (place_of s)
+    abbrev heard : ReaderAnswer
+    heard = answer_at input (place_of s)
 
     below : place_of s < length input
     below = omega (arith, length-append got later, got_length, there sure)
@@ -271,7 +270,7 @@ module _ {b : List ℕ} {s : Listening} {got text : List ℕ} (so : Sofar b s go
     number_here st x e = rw (same.number st) e
 
   abbrev next : ℕ
-  next = next_heard (heard_in b s)
+  next = (heard_in b s).next
 
   -- a message is accepted
   module _ {o : List ℕ} {r : Listening} {o' : List ℕ} (sure : Sure b s) (on : breaks_off s h ≡ false)
@@ -299,7 +298,7 @@ module _ {b : List ℕ} {s : Listening} {got text : List ℕ} (so : Sofar b s go
         same_part i j m n e f = rw (e, f)
 
     module _ (later : List ℕ) (last : has_ended s.read ≡ true → later ≡ []) where
-      place_told : next_heard (heard sure later last) ≡ place_of r
+      place_told : (heard sure later last).next ≡ place_of r
       place_told =
           (alike_here sure later last).size (accepted_is_done s.feed.stream h accepted) ∙ sym place_behind
 

@@ -15,6 +15,7 @@ use borrow.Author.Tests.{ltb-true, ltb-false}
 use Rattle.paper.specs.Lists.{pick}
 use Rattle.paper.proofs.Logic.{not_true_and_false, not_true, not_false}
 use Rattle.sums.specs.Sums.{sum_on, sum_of}
+use Rattle.paper_messages.specs.declared.ReaderAnswer.{ReaderAnswer}
 use Rattle.paper_streams.specs.declared.Stream.{Stream}
 use Rattle.paper_streams.specs.Streams.{no_stream, is_begin, is_end, stream_after}
 use Rattle.text_bytes.specs.Bytes.{room}
@@ -34,7 +35,6 @@ use Rattle.listen_serve.specs.Steps.{ReadsOn, Finishes, without_end, is_last, on
 use Rattle.listen_serve.specs.Steps.{unended, delivers, ends, Steps, handed_of, Run, starts, goes, Ends, refuses}
 use Rattle.listen_serve.specs.Steps.{stopped, Listens}
 use Rattle.listen_serve.proofs.Places.{accepted_within, cut_leaves_room, unheard_length}
-use Rattle.paper_messages.specs.Messages.{Hearing, next_heard}
 
 -- ---- more is delivered
 
@@ -158,7 +158,7 @@ is_going b s stands going =
     }
 
 -- a message counts for one at most
-counts_one : (s : Stream) (h : Hearing) (bytes : List ℕ) → (stream_after s h bytes).count ≤ s.count + 1
+counts_one : (s : Stream) (h : ReaderAnswer) (bytes : List ℕ) → (stream_after s h bytes).count ≤ s.count + 1
 unfolding stream_after
 counts_one s h bytes = go (is_begin h) (is_end h) s.began
   where
@@ -179,8 +179,8 @@ one_most false = omega arith
 
 module _ (b : List ℕ) (s : Listening) (stands : Stands b s) (going : s.over ≡ false) where
   -- a line is told
-  module _ (h : Hearing) (o : List ℕ) (r : Listening) (o' : List ℕ) (tells : Tells b s h o r o')
-      (within : accepts s h ≡ true → (s.at < next_heard h) × (next_heard h ≤ s.len)) where
+  module _ (h : ReaderAnswer) (o : List ℕ) (r : Listening) (o' : List ℕ) (tells : Tells b s h o r o')
+      (within : accepts s h ≡ true → (s.at < h.next) × (h.next ≤ s.len)) where
     told_place_within : (x : Bool) → accepts s h ≡ x → (s.at ≤ r.at) × (r.at ≤ s.len)
     told_place_within true e = let q = within e in rw (tells.accepted e).0 (omega (arith, q.0), q.1)
     told_place_within false e = rw (tells.refused e).0 (omega arith, stands.low)
@@ -366,7 +366,7 @@ module _ (b : List ℕ) (s : Listening) (stands : Stands b s) (going : s.over �
 
 -- ---- the steps
 
-module _ (b : List ℕ) (s : Listening) (o : List ℕ) (stands : Stands b s) (going : s.over ≡ false) (h : Hearing)
+module _ (b : List ℕ) (s : Listening) (o : List ℕ) (stands : Stands b s) (going : s.over ≡ false) (h : ReaderAnswer)
     (heard : h ≡ heard_in b s) (cut : Bool) (is : cut ≡ is_cut h) where
   cut_is : is_cut (heard_in b s) ≡ cut
   cut_is = rw (is, heard)
@@ -376,7 +376,7 @@ module _ (b : List ℕ) (s : Listening) (o : List ℕ) (stands : Stands b s) (go
   steps_room cut_short = cut_leaves_room b s stands (cut_is ∙ not_false cut cut_short)
 
   -- the place behind a message
-  pub within : accepts s h ≡ true → (s.at < next_heard h) × (next_heard h ≤ s.len) × (s.len ≤ length b)
+  pub within : accepts s h ≡ true → (s.at < h.next) × (h.next ≤ s.len) × (s.len ≤ length b)
   within e =
       let length-is : length (take s.len b) ≡ s.len = length-take-le s.len b (omega (
         arith,
@@ -388,7 +388,7 @@ module _ (b : List ℕ) (s : Listening) (o : List ℕ) (stands : Stands b s) (go
 
   told : (r : Listening) (o' : List ℕ) → Sure b s → Hears b s h o r o' → Steps b s o b r o'
   told r o' sure (goes_on on t) =
-      let place : accepts s h ≡ true → (s.at < next_heard h) × (next_heard h ≤ s.len) =
+      let place : accepts s h ≡ true → (s.at < h.next) × (h.next ≤ s.len) =
       λ e. ((within e).0, (within e).1) in
       record {
         is = tells sure (rw heard at on) refl (rw heard at t);
@@ -622,7 +622,7 @@ none_gathered stands going on over (goes_out none k) = none
 none_gathered {s = s} {r = r} stands going on over (waits_on k same) =
     absurd (not_true_and_false r.over over (on ∙ rw (same, stands.taken going) refl))
 
-none_told : {b : List ℕ} {s : Listening} {h : Hearing} {o : List ℕ} {r : Listening} {o' : List ℕ} → Stands b s
+none_told : {b : List ℕ} {s : Listening} {h : ReaderAnswer} {o : List ℕ} {r : Listening} {o' : List ℕ} → Stands b s
     → s.over ≡ false → Tells b s h o r o' → r.over ≡ true → r.waiting ≡ 0
 none_told {b} {s} {h} {o} {r} {o'} stands going t over = go (accepts s h) refl
   where

@@ -11,20 +11,20 @@ use lib.Seq.{length-take-le}
 use borrow.Author.Tests.{ltb-true, ltb-false, leb-true}
 use Rattle.paper.specs.declared.Verdict.{Verdict}
 use Rattle.paper.specs.declared.Verdict.TheVariants.{Done, CutShort, WrongLength, FieldOutOfRange}
+use Rattle.std.specs.Prelude.{Err}
 use Rattle.paper.specs.Lists.{pick}
 use Rattle.paper.specs.Ranges.{within}
 use Rattle.paper.specs.Verdicts.{number_of, is_done, first_of}
 use Rattle.paper.proofs.Logic.{and_right, not_false, not_true_and_false}
-use Rattle.paper_messages.specs.Messages.{length_width, length_least, length_most, length_at, read_checks}
-use Rattle.paper_messages.specs.Messages.{accepted_heard, heard_at, length_of, is_known_kind, valid, kind_at, message_at}
+use Rattle.paper_messages.specs.Messages.{length_width, length_least, length_most, length_at, read_checks, answer_of}
+use Rattle.paper_messages.specs.Messages.{accepted_heard, heard_at, answer_at, length_of, is_known_kind, valid, kind_at, message_at}
+use Rattle.paper_messages.specs.declared.ReaderAnswer.{ReaderAnswer}
 use Rattle.paper_streams.specs.declared.Stream.{Stream}
 use Rattle.paper_streams.specs.Streams.{number_in}
 use Rattle.paper_streams.proofs.WholeOnly.{number_none}
 use Rattle.listen_serve.specs.declared.Listening.{Listening}
 use Rattle.text_bytes.specs.Bytes.{room}
 use Rattle.listen_serve.specs.Steps.{unheard, heard_in, is_cut, Stands}
-use Rattle.paper_messages.specs.Messages.{Hearing, next_heard, verdict_of}
-use Rattle.std.specs.Prelude.{Err}
 
 -- a message that is not refused is whole
 done_is_not_short : (few out short : Bool) (rest : Verdict)
@@ -44,30 +44,30 @@ done_is_whole bytes e =
     (ltb (length bytes) (length_width + length_at bytes)) _ e)
 
 -- what is accepted in its stream is accepted
-pub accepted_is_done : (s : Stream) (h : Hearing) → eqb (number_in s h) 0 ≡ true → is_done (verdict_of h) ≡ true
+pub accepted_is_done : (s : Stream) (h : ReaderAnswer) → eqb (number_in s h) 0 ≡ true → is_done h.verdict ≡ true
 unfolding is_done
 accepted_is_done s h e = rw (number_none s h e).0 refl
 
 -- THE PLACE BEHIND A MESSAGE is behind its own, and not past the buffer
-pub next_within : (b : List ℕ) (at : ℕ) → is_done (verdict_of (heard_at b at)) ≡ true
-    → (at < next_heard (heard_at b at)) × (next_heard (heard_at b at) ≤ length b)
+pub next_within : (b : List ℕ) (at : ℕ) → is_done (answer_at b at).verdict ≡ true
+    → (at < (answer_at b at).next) × ((answer_at b at).next ≤ length b)
 unfolding heard_at accepted_heard
 next_within b at = go (is_done (first_of (read_checks (drop at b)))) refl
   where
     go : (x : Bool) → is_done (first_of (read_checks (drop at b))) ≡ x
-        → is_done (verdict_of (pick x (accepted_heard at (drop at b)) (Err (first_of (read_checks (drop at b))))))
+        → is_done (answer_of (pick x (accepted_heard at (drop at b)) (Err (first_of (read_checks (drop at b)))))).verdict
         ≡ true
-        → (at < next_heard (pick x (accepted_heard at (drop at b)) (Err (first_of (read_checks (drop at b))))))
-        × (next_heard (pick x (accepted_heard at (drop at b)) (Err (first_of (read_checks (drop at b))))) ≤ length b)
+        → (at < (answer_of (pick x (accepted_heard at (drop at b)) (Err (first_of (read_checks (drop at b)))))).next)
+        × ((answer_of (pick x (accepted_heard at (drop at b)) (Err (first_of (read_checks (drop at b)))))).next ≤ length b)
     go true e h =
         let w : length_width + length_at (drop at b) ≤ length b - at = rw length-drop at (done_is_whole (drop at b) e) in
         (omega arith, omega arith)
     go false e h = absurd (not_true_and_false false (sym e ∙ h) refl)
 
 -- and so is the place behind what is accepted in its stream
-pub accepted_within : (b : List ℕ) (at : ℕ) (s : Stream) → eqb (number_in s (heard_at b at)) 0 ≡ true
-    → (at < next_heard (heard_at b at)) × (next_heard (heard_at b at) ≤ length b)
-accepted_within b at s e = next_within b at (accepted_is_done s (heard_at b at) e)
+pub accepted_within : (b : List ℕ) (at : ℕ) (s : Stream) → eqb (number_in s (answer_at b at)) 0 ≡ true
+    → (at < (answer_at b at).next) × ((answer_at b at).next ≤ length b)
+accepted_within b at s e = next_within b at (accepted_is_done s (answer_at b at) e)
 
 -- of what is cut short there are fewer bytes than the longest message has
 cut_is_few : (few out short wrong bad : Bool)
@@ -101,12 +101,12 @@ bytes_cut bytes e =
         (and_right (leb length_least (length_at bytes)) (leb (length_at bytes) length_most) (not_false _ h.0)) in
         omega (arith, most, ltb-true (length bytes) (length_width + length_at bytes) h.1)
 
-heard_cut : (b : List ℕ) (at : ℕ) → is_cut (heard_at b at) ≡ true → length b - at < length_width + length_most
+heard_cut : (b : List ℕ) (at : ℕ) → is_cut (answer_at b at) ≡ true → length b - at < length_width + length_most
 unfolding heard_at accepted_heard
 heard_cut b at e = rw length-drop at (go (is_done (first_of (read_checks (drop at b)))) e)
   where
     go : (x : Bool)
-        → is_cut (pick x (accepted_heard at (drop at b)) (Err (first_of (read_checks (drop at b))))) ≡ true
+        → is_cut (answer_of (pick x (accepted_heard at (drop at b)) (Err (first_of (read_checks (drop at b)))))) ≡ true
         → length (drop at b) < length_width + length_most
     go true h = absurd (not_true_and_false false h refl)
     go false h = bytes_cut (drop at b) h

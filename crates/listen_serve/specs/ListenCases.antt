@@ -3,13 +3,15 @@
 -- as the number says.
 use Rattle.std.specs.Prelude.{◌≡◌, refl, Bool, true, false, List, [], ◌∷◌, ◌++◌, map, ℕ, zero, suc, ◌-◌, ℤ, pos, negsuc, replicate, take, set}
 use Prim.Native.String.{String}
+use Rattle.paper.specs.declared.Verdict.TheVariants.{Done}
 use Rattle.paper.specs.Ranges.{unsigned}
 use Rattle.paper.specs.Verdicts.{is_done, first_of}
 use Rattle.sums.specs.Sums.{divided, bits_of, after_bits, after_bytes, sum_on, sum_of}
+use Rattle.paper_messages.specs.declared.ReaderAnswer.{ReaderAnswer}
 use Rattle.paper_messages.specs.Bytes.{spelled, complement, signed_of}
 use Rattle.paper_messages.specs.Fields.{fields_of, filled, places_of, kind_word}
 use Rattle.paper_messages.specs.Fields.{places}
-use Rattle.paper_messages.specs.Messages.{total, length_of, is_known_kind, in_ranges, valid, values_at, message_at}
+use Rattle.paper_messages.specs.Messages.{total, length_of, is_known_kind, in_ranges, valid, values_at, message_at, no_message}
 use Rattle.paper_messages.specs.Messages.{read_checks, accepted_heard, heard_at}
 use Rattle.paper_streams.specs.Streams.{no_stream, end_fits_of, number_in, stream_after}
 use Rattle.paper_streams.specs.PinnedStreams.{begin_bytes, reasons_bytes, session_bytes, come}
@@ -18,8 +20,6 @@ use Rattle.text_bytes.specs.Numbers.{spelt, decimal, signed, next, spaced}
 use Rattle.listen_lines.specs.Lines.{word_line, fields_in, numbers_in, line_of, unended_line}
 use Rattle.listen_serve.specs.Listen.{listen_from, listen_text}
 use Rattle.listen_serve.specs.OldForm.{old_form_from, is_old_form}
-use Rattle.paper_messages.specs.Messages.{Hearing, message_heard}
-use Rattle.std.specs.Prelude.{Ok, Some, None}
 
 -- lines, each ended
 unfoldable pub ended : List String → List ℕ
@@ -34,31 +34,35 @@ counted from zero = []
 counted from (suc count) = from ∷ counted (suc from) count
 
 -- a message whose fields count up, the second below zero
-unfoldable pub counting : (kind : ℕ) → Hearing
+unfoldable pub counting : (kind : ℕ) → ReaderAnswer
 counting kind =
-    Ok (record {
+    record {
+      verdict = Done;
+      known = true;
       kind = kind;
       length = 200;
       next = 300;
-      message = Some (record {
+      message = record {
         kind = kind;
         fields = pos 1 ∷ negsuc 1 ∷ map pos (counted 3 (places - 2));
-      });
-    })
+      };
+    }
 
 -- an unknown kind
-unfoldable pub skipped : Hearing
-skipped = Ok (record { kind = 90; length = 20; next = 30; message = None })
+unfoldable pub skipped : ReaderAnswer
+skipped = record { verdict = Done; known = false; kind = 90; length = 20; next = 30; message = no_message }
 
 -- an `end` of two messages and a sum
-unfoldable pub end_heard : (sum : ℤ) → Hearing
+unfoldable pub end_heard : (sum : ℤ) → ReaderAnswer
 end_heard sum =
-    Ok (record {
+    record {
+      verdict = Done;
+      known = true;
       kind = 7;
       length = 14;
       next = 26;
-      message = Some (record { kind = 7; fields = pos 2 ∷ sum ∷ replicate (places - 2) (pos 0) });
-    })
+      message = record { kind = 7; fields = pos 2 ∷ sum ∷ replicate (places - 2) (pos 0) };
+    }
 
 -- each kind has its word and all of its fields in order; an unknown one its kind and length, a refusal its number and
 -- the place
@@ -79,9 +83,9 @@ unfolding counting end_heard skipped ended bytes line_of word_line kind_word num
 lines_heard = (refl, refl, refl, refl, refl, refl, refl, refl, refl, refl, refl)
 
 -- the sum of an `end` is told without a sign: the greatest is FFFFFFFF
-pub sums_told : (numbers_in (message_heard (end_heard (pos 12))) ≡ pos 2 ∷ pos 12 ∷ [])
-    × (numbers_in (message_heard (end_heard (negsuc 0))) ≡ pos 2 ∷ pos 4294967295 ∷ [])
-    × (numbers_in (message_heard (end_heard (negsuc 2147483647))) ≡ pos 2 ∷ pos 2147483648 ∷ [])
+pub sums_told : (numbers_in (end_heard (pos 12)).message ≡ pos 2 ∷ pos 12 ∷ [])
+    × (numbers_in (end_heard (negsuc 0)).message ≡ pos 2 ∷ pos 4294967295 ∷ [])
+    × (numbers_in (end_heard (negsuc 2147483647)).message ≡ pos 2 ∷ pos 2147483648 ∷ [])
 unfolding end_heard numbers_in fields_in fields_of unsigned complement
 sums_told = (refl, refl, refl)
 

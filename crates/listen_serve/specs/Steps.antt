@@ -4,7 +4,8 @@
 use Rattle.std.specs.Prelude.{◌≡◌, ◌⊎◌, Bool, true, false, not, ◌&&◌, ◌||◌, List, [], ◌++◌, ℕ, ◌+◌, ◌-◌, ◌*◌, ◌≤◌, ◌<◌, eqb, ltb, length, take, drop}
 use Rattle.paper.specs.declared.Verdict.TheVariants.{CutShort}
 use Rattle.paper.specs.Verdicts.{number_of}
-use Rattle.paper_messages.specs.Messages.{heard_at}
+use Rattle.paper_messages.specs.declared.ReaderAnswer.{ReaderAnswer}
+use Rattle.paper_messages.specs.Messages.{answer_at}
 use Rattle.paper_streams.specs.declared.Stream.{Stream}
 use Rattle.paper_streams.specs.Streams.{no_stream, is_begin, number_in, stream_after}
 use Rattle.paper_streams.specs.Alone.{stands_alone}
@@ -14,7 +15,6 @@ use Rattle.text_evidence.specs.Evidence.{count_most, Counted, unread, has_ended,
 use Rattle.listen_lines.specs.Lines.{line_of, unended_line, line_most}
 use Rattle.listen_serve.specs.declared.Feed.{Feed}
 use Rattle.listen_serve.specs.declared.Listening.{Listening}
-use Rattle.paper_messages.specs.Messages.{Hearing, next_heard, verdict_of}
 
 -- ---- what is kept of the streams
 
@@ -23,7 +23,7 @@ abbrev pub start_feed : Feed
 start_feed = record { stream = no_stream; alone = true }
 
 -- behind a message of these bytes at a place of the input
-unfoldable pub feed_after : Feed → (place : ℕ) → Hearing → (bytes : List ℕ) → Feed
+unfoldable pub feed_after : Feed → (place : ℕ) → ReaderAnswer → (bytes : List ℕ) → Feed
 feed_after f place h bytes =
     record {
       stream = stream_after f.stream h bytes;
@@ -58,23 +58,23 @@ abbrev pub place_of : Listening → ℕ
 place_of s = s.read.all - (s.len - s.at)
 
 -- what is heard there, of what is delivered
-abbrev pub heard_in : (buffer : List ℕ) → Listening → Hearing
-heard_in b s = heard_at (take s.len b) s.at
+abbrev pub heard_in : (buffer : List ℕ) → Listening → ReaderAnswer
+heard_in b s = answer_at (take s.len b) s.at
 
 -- the number that is answered of what is heard, and whether it is accepted
-abbrev pub number_on : Listening → Hearing → ℕ
+abbrev pub number_on : Listening → ReaderAnswer → ℕ
 number_on s h = number_in s.feed.stream h
 
-abbrev pub accepts : Listening → Hearing → Bool
+abbrev pub accepts : Listening → ReaderAnswer → Bool
 accepts s h = eqb (number_on s h) 0
 
 -- a `begin` within a stream: the stream has no end
-abbrev pub breaks_off : Listening → Hearing → Bool
+abbrev pub breaks_off : Listening → ReaderAnswer → Bool
 breaks_off s h = s.feed.stream.began && is_begin h
 
 -- a message that is cut short: more bytes may make it whole
-abbrev pub is_cut : Hearing → Bool
-is_cut h = eqb (number_of (verdict_of h)) (number_of CutShort)
+abbrev pub is_cut : ReaderAnswer → Bool
+is_cut h = eqb (number_of h.verdict) (number_of CutShort)
 
 -- how the two buffers stand between steps; a write that failed is the last. A message has bytes, so that a stream has
 -- no more messages than bytes were heard
@@ -99,12 +99,12 @@ pub record Going (s : Listening) : Type 0 where
   pub taken : took_all s.told ≡ true
 
 -- an accepted message stands in what is delivered
-abbrev pub NextWithin : (buffer : List ℕ) → Listening → Hearing → Type 0
-NextWithin b s h = accepts s h ≡ true → (s.at < next_heard h) × (next_heard h ≤ s.len) × (s.len ≤ length b)
+abbrev pub NextWithin : (buffer : List ℕ) → Listening → ReaderAnswer → Type 0
+NextWithin b s h = accepts s h ≡ true → (s.at < h.next) × (h.next ≤ s.len) × (s.len ≤ length b)
 
 -- the bytes of what is heard
-abbrev pub own_bytes_in : (buffer : List ℕ) → Listening → Hearing → List ℕ
-own_bytes_in b s h = take (next_heard h - s.at) (drop s.at b)
+abbrev pub own_bytes_in : (buffer : List ℕ) → Listening → ReaderAnswer → List ℕ
+own_bytes_in b s h = take (h.next - s.at) (drop s.at b)
 
 -- ---- the lines
 
@@ -145,11 +145,11 @@ pub record MakesRoom (s r : Listening) : Type 0 where
 
 -- THE LINE OF WHAT IS HEARD is gathered. The next place is behind it; nothing more is heard behind a refusal, or where
 -- `write` did not take all that was handed over
-pub record Tells (b : List ℕ) (s : Listening) (h : Hearing) (o : List ℕ) (r : Listening) (o' : List ℕ) : Type 0
+pub record Tells (b : List ℕ) (s : Listening) (h : ReaderAnswer) (o : List ℕ) (r : Listening) (o' : List ℕ) : Type 0
   where
     pub line : Gathers s o r o' (line_of (place_of s) (number_on s h) h)
     pub accepted : accepts s h ≡ true
-        → (r.at ≡ next_heard h) × (r.over ≡ not (took_all r.told))
+        → (r.at ≡ h.next) × (r.over ≡ not (took_all r.told))
         × (r.feed ≡ feed_after s.feed (place_of s) h (own_bytes_in b s h))
     pub refused : accepts s h ≡ false
         → (r.at ≡ s.at) × (r.over ≡ true) × (r.waiting ≡ 0) × (r.feed ≡ not_alone s.feed.stream)
@@ -168,7 +168,7 @@ pub record TellsUnended (s : Listening) (o : List ℕ) (r : Listening) (o' : Lis
   pub space : r.waiting + line_most ≤ room
 
 -- WHAT IS HEARD is told; but of a `begin` within a stream, first that the stream has no end
-pub data Hears (b : List ℕ) (s : Listening) (h : Hearing) (o : List ℕ) (r : Listening) (o' : List ℕ) : Type 0 where
+pub data Hears (b : List ℕ) (s : Listening) (h : ReaderAnswer) (o : List ℕ) (r : Listening) (o' : List ℕ) : Type 0 where
   breaks_off_lem : s.feed.stream.began ≡ true → is_begin h ≡ true → TellsUnended s o r o' → Hears b s h o r o'
   goes_on : breaks_off s h ≡ false → Tells b s h o r o' → Hears b s h o r o'
 

@@ -11,10 +11,10 @@ ghost use Rattle.listen_serve.specs.Steps.{Stands, Going, NextWithin, gathered, 
 ghost use Rattle.listen_serve.specs.Steps.{Hears, WritesOut, Delivers, ReadsOn, Finishes, Steps, Listens};
 ghost use Rattle.listen_serve.specs.Steps.{went_well, whole_in};
 
-use listen_lines::streams::{known_kind, no_stream, number_in, stands_alone, stream_after};
+use listen_lines::streams::{no_stream, number_in, stands_alone, stream_after};
 use listen_lines::{LINE_MOST, say_heard, say_unended};
 use paper::Verdict;
-use paper_messages::{Heard, Message};
+use paper_messages::{Message, ReaderAnswer};
 use paper_streams::Stream;
 use std::io::{Stdin, Stdout};
 use text_bytes::ROOM;
@@ -136,14 +136,14 @@ fn make_room(stdout: Stdout, out: &[u8], s: Listening) -> Listening
 }
 
 // What is kept of the streams behind a message of these bytes at a place of the input.
-fn feed_after(f: Feed, place: u64, heard: Result<Heard, Verdict>, bytes: &[u8]) -> Feed
+fn feed_after(f: Feed, place: u64, h: ReaderAnswer, bytes: &[u8]) -> Feed
     requires { f.stream.count < count_most }
-    ensures { result ≡ feed_after f place heard bytes.now }
+    ensures { result ≡ feed_after f place h bytes.now }
 {
     let stream = f.stream;
     Feed {
-        stream: stream_after(stream, heard, bytes),
-        alone: f.alone & stands_alone(place, stream, heard),
+        stream: stream_after(stream, h, bytes),
+        alone: f.alone & stands_alone(place, stream, h),
     }
 }
 
@@ -177,30 +177,26 @@ fn tell(
     buf: &[u8],
     out: &mut [u8; ROOM],
     s: Listening,
-    heard: Result<Heard, Verdict>,
+    h: ReaderAnswer,
 ) -> Listening
-    requires { Going s × NextWithin buf.now s heard }
-    ensures { Tells buf.now s heard out.old result out.new }
+    requires { Going s × NextWithin buf.now s h }
+    ensures { Tells buf.now s h out.old result out.new }
 {
     let feed = s.feed;
     let stream = feed.stream;
     let place = place_of(s);
-    let no = number_in(stream, heard);
-    let n = say_heard(out, s.waiting, place, no, heard);
+    let no = number_in(stream, h);
+    let n = say_heard(out, s.waiting, place, no, h);
     let at = s.at;
-    match heard {
-        Ok(h) if no == 0 => {
-            let next = h.next;
-            let after = feed_after(feed, place, heard, &buf[at..next]);
-            let r = gathered(s, n, next, after);
-            make_room(stdout, out, r)
-        }
-        _ => {
-            let none = not_alone(stream);
-            let r = gathered(s, n, at, none);
-            write_out(stdout, out, r, true)
-        }
+    if no != 0 {
+        let none = not_alone(stream);
+        let r = gathered(s, n, at, none);
+        return write_out(stdout, out, r, true);
     }
+    let next = h.next;
+    let after = feed_after(feed, place, h, &buf[at..next]);
+    let r = gathered(s, n, next, after);
+    make_room(stdout, out, r)
 }
 
 // What is heard: a `begin` within a stream says first that the stream has no end.
@@ -209,26 +205,26 @@ fn hear(
     buf: &[u8],
     out: &mut [u8; ROOM],
     s: Listening,
-    heard: Result<Heard, Verdict>,
+    h: ReaderAnswer,
 ) -> Listening
-    requires { Going s × NextWithin buf.now s heard }
-    ensures { Hears buf.now s heard out.old result out.new }
+    requires { Going s × NextWithin buf.now s h }
+    ensures { Hears buf.now s h out.old result out.new }
 {
     let feed = s.feed;
     let stream = feed.stream;
-    if stream.began & (known_kind(heard) == Message::BEGIN) {
+    if stream.began & (h.kind == Message::BEGIN) {
         return tell_unended(stdout, out, s);
     }
-    tell(stdout, buf, out, s, heard)
+    tell(stdout, buf, out, s, h)
 }
 
 // ---- steps
 
 // "21, message cut short": more bytes may make it whole.
-fn is_cut(heard: Result<Heard, Verdict>) -> bool
-    ensures { result ≡ is_cut heard }
+fn is_cut(h: ReaderAnswer) -> bool
+    ensures { result ≡ is_cut h }
 {
-    matches!(heard, Err(Verdict::CutShort))
+    matches!(h.verdict, Verdict::CutShort)
 }
 
 // No byte more is counted: nothing more is heard, and that is not how an input ends.
@@ -291,8 +287,9 @@ pub fn step(
     let at = s.at;
     let len = s.len;
     let heard = messages::read(&buf[..len], at);
-    if !is_cut(heard) {
-        return hear(stdout, buf, out, s, heard);
+    let h = ReaderAnswer::from(heard);
+    if !is_cut(h) {
+        return hear(stdout, buf, out, s, h);
     }
     let read = s.read;
     if !read.has_ended() {
@@ -301,7 +298,7 @@ pub fn step(
     if at == len {
         return end_of_input(stdout, out, s);
     }
-    hear(stdout, buf, out, s, heard)
+    hear(stdout, buf, out, s, h)
 }
 
 // Every message of standard input. The state at the end has the evidence of what was read and written.

@@ -12,7 +12,8 @@ use Rattle.paper.specs.Verdicts.{is_done, first_of, FirstAt, NoneApplies, Exactl
 use Rattle.paper.proofs.Logic.{pick_false}
 use Rattle.paper_desk.proofs.Refusals.{done_is, refused_exactly, accepted_exactly}
 use Rattle.paper_messages.specs.declared.Message.{Message}
-use Rattle.paper_messages.specs.Messages.{encode, write_checks, wrote_of, written, read_checks, heard_at}
+use Rattle.paper_messages.specs.Messages.{encode, write_checks, wrote_of, written, read_checks, heard_at, refused_heard}
+use Rattle.paper_messages.specs.Messages.{answer_of, answer_at}
 use Rattle.paper_messages.proofs.MessageLaws.{heard_verdict}
 use Rattle.paper_messages.specs.Messages.{verdict_of}
 use Rattle.std.specs.Prelude.{Ok, Err}
@@ -34,6 +35,11 @@ module _ (b : List ℕ) (at : ℕ) where
   read_zeros n =
       pick_false (is_done (first_of (read_checks (drop at b)))) _ _ (sym (ap is_done (heard_verdict b at)) ∙ n)
       ∙ ap Err (sym (heard_verdict b at))
+
+  -- and in one record a refusal has zeros
+  pub answer_zeros : is_done (answer_at b at).verdict ≡ false → answer_at b at ≡ refused_heard (answer_at b at).verdict
+  unfolding refused_heard
+  answer_zeros n = ap answer_of (read_zeros n)
 
 -- ---- the writer: 23, 24
 

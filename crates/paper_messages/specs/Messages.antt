@@ -12,6 +12,7 @@ use Rattle.paper.specs.Verdicts.{Check, first_of, is_done}
 use Rattle.paper_messages.specs.declared.Field.{Field}
 use Rattle.paper_messages.specs.declared.Message.{Message}
 use Rattle.paper_messages.specs.declared.Heard.{Heard}
+use Rattle.paper_messages.specs.declared.ReaderAnswer.{ReaderAnswer}
 use Rattle.paper_messages.specs.Bytes.{width_most, fits_width, bytes_of, spelled, complement, signed_of}
 use Rattle.paper_messages.specs.Fields.{statics_message_kind, kinds_count, places, places_of}
 
@@ -177,6 +178,22 @@ abbrev pub message_heard : Hearing → Message
 message_heard (Ok h) = unwrap_or h.message no_message
 message_heard (Err v) = no_message
 
+-- the same in one record: of a refusal, its number and zeros
+unfoldable pub refused_heard : Verdict → ReaderAnswer
+refused_heard v = record { verdict = v; known = false; kind = 0; length = 0; next = 0; message = no_message }
+
+-- and of all that is heard
+abbrev pub answer_of : Hearing → ReaderAnswer
+answer_of h =
+    record {
+      verdict = verdict_of h;
+      known = known_heard h;
+      kind = kind_heard h;
+      length = length_heard h;
+      next = next_heard h;
+      message = message_heard h;
+    }
+
 -- a message that is not refused: "A reader meeting an unknown kind skips it by its length .. and says so", and the next
 -- one begins behind it
 unfoldable pub accepted_heard : (place : ℕ) → (bytes : List ℕ) → Hearing
@@ -194,3 +211,7 @@ heard_at buffer place =
     let bytes : List ℕ = drop place buffer in
     let v : Verdict = first_of (read_checks bytes) in
     pick (is_done v) (accepted_heard place bytes) (Err v)
+
+-- and the same in one record
+abbrev pub answer_at : (buffer : List ℕ) → (place : ℕ) → ReaderAnswer
+answer_at buffer place = answer_of (heard_at buffer place)

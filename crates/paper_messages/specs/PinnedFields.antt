@@ -1,7 +1,7 @@
 -- W-212: the range of each field of each kind, as docs/BROADCAST.md lists it, both sides of each end; and what is heard
 -- of a message that is refused, or of an unknown kind.
-use Rattle.std.specs.Prelude.{◌≡◌, refl, Bool, List, [], ◌∷◌, ◌++◌, map, ℕ, pos, negsuc, length, replicate}
-use Rattle.paper.specs.declared.Verdict.TheVariants.{CutShort}
+use Rattle.std.specs.Prelude.{◌≡◌, refl, Bool, false, List, [], ◌∷◌, ◌++◌, map, ℕ, pos, negsuc, length, replicate}
+use Rattle.paper.specs.declared.Verdict.TheVariants.{Done, CutShort}
 use Rattle.paper.specs.PinnedRanges.{Ranged, range, values_of, straddles, at_the_ends_alone}
 use Rattle.paper.specs.Verdicts.{is_done, first_of}
 use Rattle.paper_messages.specs.declared.Field.{Field}
@@ -10,7 +10,7 @@ use Rattle.paper_messages.specs.Fields.{eight_bytes, statics_fields, rates_field
 use Rattle.paper_messages.specs.Fields.{reasons_fields, begin_fields, end_fields, session_fields, fields_of}
 use Rattle.paper_messages.specs.Messages.{is_known_kind, in_ranges, read_checks, no_message, accepted_heard}
 use Rattle.std.specs.Prelude.{Ok, Err, None}
-use Rattle.paper_messages.specs.Messages.{heard_at}
+use Rattle.paper_messages.specs.Messages.{heard_at, answer_at}
 
 -- ---- ranges
 
@@ -134,3 +134,25 @@ pub unheard_are : (heard_at [] 0 ≡ Err CutShort)
     × (no_message ≡ record { kind = 0; fields = replicate 27 (pos 0) })
 unfolding heard_at accepted_heard read_checks first_of is_done is_known_kind spelled
 unheard_are = (refl, refl, refl)
+
+-- and in one record zeros stand for what a refusal has not
+pub unheard_answers_are : (answer_at [] 0
+    ≡ record {
+      verdict = CutShort;
+      known = false;
+      kind = 0;
+      length = 0;
+      next = 0;
+      message = record { kind = 0; fields = replicate 27 (pos 0) };
+    })
+    × (answer_at (2 ∷ 0 ∷ 0 ∷ 0 ∷ 9 ∷ 0 ∷ 3 ∷ 0 ∷ 0 ∷ 0 ∷ 9 ∷ 0 ∷ 1 ∷ []) 6
+    ≡ record {
+      verdict = Done;
+      known = false;
+      kind = 9;
+      length = 3;
+      next = 13;
+      message = record { kind = 0; fields = replicate 27 (pos 0) };
+    })
+unfolding heard_at accepted_heard read_checks first_of is_done is_known_kind spelled
+unheard_answers_are = (refl, refl)

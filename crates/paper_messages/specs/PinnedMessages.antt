@@ -3,13 +3,14 @@ use Rattle.std.specs.Prelude.{◌≡◌, refl, Bool, true, false, List, [], ◌�
 use Rattle.std.proofs.lemmas.List.Edits.{sets}
 use Rattle.paper.specs.Ranges.{unsigned, given_of, flag_of, valid_statics, statics_of, valid_given}
 use Rattle.paper.specs.Verdicts.{number_of, is_done, first_of}
+use Rattle.paper.specs.declared.Verdict.TheVariants.{Done}
 use Rattle.paper_messages.specs.declared.Message.{Message}
 use Rattle.paper_messages.specs.Bytes.{bytes_of, spelled, complement, signed_of}
 use Rattle.paper_messages.specs.Fields.{statics_message_kind, rates_message_kind, bands_message_kind, move_message_kind}
 use Rattle.paper_messages.specs.Fields.{yes_no, fields_of, filled, places_of}
 use Rattle.paper_messages.specs.Messages.{body_of, total, length_of, encode, is_known_kind, in_ranges}
 use Rattle.paper_messages.specs.Messages.{as_admission, valid, write_checks, wrote_of, written, values_at, message_at}
-use Rattle.paper_messages.specs.Messages.{read_checks, accepted_heard, heard_at}
+use Rattle.paper_messages.specs.Messages.{read_checks, accepted_heard, heard_at, answer_at}
 use Rattle.paper_messages.specs.Records.{message}
 use Rattle.paper_messages.specs.Messages.{Hearing, kind_heard, known_heard, length_heard, message_heard, next_heard, verdict_of}
 use Rattle.std.specs.Result.{result_unwrap_or}
@@ -243,6 +244,14 @@ unfolding statics_bytes rates_bytes bands_bytes move_bytes statics_told rates_to
     accepted_heard read_checks first_of is_done is_known_kind valid in_ranges as_admission given_of valid_given
     valid_statics statics_of unsigned message_at values_at spelled signed_of length_of total places_of fields_of filled
 heard_back = (refl, refl, refl, refl)
+
+-- and in one record
+pub answered_back : answer_at move_bytes 0
+    ≡ record { verdict = Done; known = true; kind = 4; length = 62; next = 66; message = move_told }
+unfolding move_bytes move_told message zeros heard_at accepted_heard read_checks first_of is_done is_known_kind valid in_ranges
+    as_admission given_of valid_given valid_statics statics_of unsigned message_at values_at spelled signed_of length_of total
+    places_of fields_of filled
+answered_back = refl
 
 -- ---- the writer
 

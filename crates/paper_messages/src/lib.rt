@@ -2,7 +2,10 @@
 // right; proofs/ proves it. It may use `paper` and `paper_desk`.
 #![tactic(auto)]
 
-use paper::Statics;
+ghost use Rattle.std.specs.Prelude.{◌≡◌};
+ghost use Rattle.paper_messages.specs.Messages.{answer_of};
+
+use paper::{Statics, Verdict};
 
 // A field of a message: how many bytes it has, and its range.
 #[derive(Clone, Copy)]
@@ -80,4 +83,45 @@ pub struct Heard {
     pub length: u64,
     pub next: usize,
     pub message: Option<Message>,
+}
+
+// What is heard in one record: a message of a known kind, or one of an unknown kind, which the reader skips; either with
+// the kind, the length that the message gives, and the place behind it. A refusal has its verdict and zeros.
+#[derive(Clone, Copy)]
+pub struct ReaderAnswer {
+    pub verdict: Verdict,
+    pub known: bool,
+    pub kind: u64,
+    pub length: u64,
+    pub next: usize,
+    pub message: Message,
+}
+
+impl From<Result<Heard, Verdict>> for ReaderAnswer {
+    ghost from_gives = { λ heard answer. answer ≡ answer_of heard };
+
+    fn from(heard: Result<Heard, Verdict>) -> ReaderAnswer {
+        let none = Message {
+            kind: 0,
+            fields: [0; Message::PLACES],
+        };
+        match heard {
+            Ok(h) => ReaderAnswer {
+                verdict: Verdict::Done,
+                known: h.message.is_some(),
+                kind: h.kind,
+                length: h.length,
+                next: h.next,
+                message: h.message.unwrap_or(none),
+            },
+            Err(verdict) => ReaderAnswer {
+                verdict,
+                known: false,
+                kind: 0,
+                length: 0,
+                next: 0,
+                message: none,
+            },
+        }
+    }
 }

@@ -12,6 +12,7 @@ use lib.IntN.{pos, negsuc}
 use lib.ListN.{length, length-append}
 use lib.Seq.{take_at, drop-append_seam, drop-length}
 use borrow.Author.Tests.{eq-eqb, eqb-true, lt-ltb, le-leb, ltb-true, ltb-false}
+use Rattle.paper.specs.declared.Verdict.TheVariants.{Done}
 use Rattle.paper.specs.Lists.{pick}
 use Rattle.paper.specs.Ranges.{unsigned, within_z}
 use Rattle.paper.specs.Verdicts.{first_of, is_done}
@@ -19,11 +20,12 @@ use Rattle.paper.proofs.Logic.{and_left, and_right, ◌&◌}
 use Rattle.sums.specs.Sums.{sum_on, sum_of}
 use Rattle.sums.proofs.SumLaws.{sum_goes_on, sum_bound}
 use Rattle.paper_messages.specs.declared.Message.{Message}
+use Rattle.paper_messages.specs.declared.ReaderAnswer.{ReaderAnswer}
 use Rattle.paper_messages.specs.Broadcast.{sent, all_sent}
 use Rattle.paper_messages.specs.Bytes.{signed_of, in_width}
 use Rattle.paper_messages.specs.Fields.{begin_message_kind, end_message_kind, places, sum_width, sum_field, filled}
 use Rattle.paper_messages.specs.Fields.{count_field, fields_of, places_of}
-use Rattle.paper_messages.specs.Messages.{length_width, encode, length_of, read_checks, heard_at}
+use Rattle.paper_messages.specs.Messages.{length_width, encode, length_of, read_checks, answer_of, answer_at}
 use Rattle.paper_messages.specs.Messages.{is_known_kind, in_ranges, valid}
 use Rattle.paper_messages.specs.Records.{past_signed, value_of, message}
 use Rattle.paper_messages.proofs.ByteLaws.{complement_only}
@@ -32,8 +34,6 @@ use Rattle.paper_streams.specs.declared.Stream.{Stream}
 use Rattle.paper_streams.specs.Streams.{begin_message, end_message, begun, ended, whole_stream, no_stream}
 use Rattle.paper_streams.specs.Streams.{is_end, count_said, sum_said, end_fits_of, not_whole, number_in, stream_after}
 use Rattle.paper_streams.specs.Streams.{may_stand, bytes_at, is_whole_from, is_whole, messages_from, messages_in}
-use Rattle.paper_messages.specs.Messages.{Hearing, next_heard}
-use Rattle.std.specs.Prelude.{Ok, Some}
 
 -- ---- the messages between `begin` and `end`
 
@@ -113,18 +113,20 @@ module _ (front rest : List ℕ) (m : Message) (v : valid m ≡ true) (full : le
   input : List ℕ
   input = front ++ (encode m ++ rest)
 
-  told : Hearing
+  told : ReaderAnswer
   told =
-      Ok (record {
+      record {
+        verdict = Done;
+        known = true;
         kind = m.kind;
         length = length_of m.kind;
         next = length front + length (encode m);
-        message = Some m;
-      })
+        message = m;
+      }
 
-  heard_is : heard_at input (length front) ≡ told
+  heard_is : answer_at input (length front) ≡ told
   unfolding input told
-  heard_is = reads_back m v full rest front
+  heard_is = ap answer_of (reads_back m v full rest front)
 
   bytes_are : bytes_at input (length front) told ≡ encode m
   unfolding input told
@@ -138,17 +140,17 @@ abbrev come : (count : ℕ) → (front : List ℕ) → Stream
 come count front = record { began = true; count = count; sum = sum_of front }
 
 -- what is made of a message that is heard
-judged_as : (most : ℕ) → (input : List ℕ) → (place : ℕ) → Stream → Hearing → Bool
+judged_as : (most : ℕ) → (input : List ℕ) → (place : ℕ) → Stream → ReaderAnswer → Bool
 judged_as most input place s h =
     eqb (number_in s h) 0
-    && pick (is_end h) (eqb (next_heard h) (length input))
+    && pick (is_end h) (eqb h.next (length input))
     (may_stand s h
-    && is_whole_from most input (next_heard h) (stream_after s h (bytes_at input place h)))
+    && is_whole_from most input h.next (stream_after s h (bytes_at input place h)))
 
-judged : (most : ℕ) (input : List ℕ) (place : ℕ) (s : Stream) (h : Hearing) → heard_at input place ≡ h
+judged : (most : ℕ) (input : List ℕ) (place : ℕ) (s : Stream) (h : ReaderAnswer) → answer_at input place ≡ h
     → is_whole_from (suc most) input place s ≡ judged_as most input place s h
 unfolding is_whole_from judged_as
-judged most input place s h e = rw e
+judged most input place s h e = ap (judged_as most input place s) e
 
 -- what the last test of a stream says: that the `end` fits
 fitting : (fits : Bool) → (eqb (pick (true && not fits) not_whole 0) 0 && true) ≡ fits

@@ -18,34 +18,32 @@ use Rattle.paper_desk.proofs.Refusals.{done_is}
 use Rattle.sums.specs.Sums.{byte_bits, sum_on, sum_of}
 use Rattle.sums.proofs.SumLaws.{sum_goes_on, flipped_bit_tells}
 use Rattle.paper_messages.specs.declared.Message.{Message}
+use Rattle.paper_messages.specs.declared.ReaderAnswer.{ReaderAnswer}
 use Rattle.paper_messages.specs.Bytes.{Bytes}
 use Rattle.paper_messages.specs.Fields.{end_message_kind, places, places_of}
 use Rattle.paper_messages.specs.Messages.{length_width, kind_width, length_of, length_at, kind_at, message_at, encode, valid}
 use Rattle.paper_messages.specs.Messages.{is_known_kind}
-use Rattle.paper_messages.specs.Messages.{read_checks, accepted_heard, heard_at}
+use Rattle.paper_messages.specs.Messages.{read_checks, message_heard, answer_of, accepted_heard, heard_at, answer_at}
 use Rattle.paper_messages.proofs.FieldLaws.{values_length, kinds_have_places}
 use Rattle.paper_messages.proofs.MessageLaws.{encode_length, heard_accepted, heard_verdict, reads_back}
 use Rattle.paper_messages.proofs.MessageLaws.{done_means_accepted, heard_only}
 use Rattle.paper_streams.specs.declared.Stream.{Stream}
 use Rattle.paper_streams.specs.Streams.{no_stream, is_begin, is_end, count_said, sum_said, end_fits_of, not_whole, number_in}
 use Rattle.paper_streams.specs.Streams.{may_stand, stream_after, bytes_at, is_whole_from, is_whole}
-use Rattle.paper_messages.specs.Messages.{Hearing, known_heard, message_heard, next_heard, verdict_of, no_message}
-use Rattle.paper_streams.specs.Streams.{known_kind}
-use Rattle.std.specs.Prelude.{Some, None, unwrap_or}
 
 -- ---- what is accepted at a place
 
 -- no number is answered: the message is accepted, and an `end` fits
-pub number_none : (s : Stream) (h : Hearing) → eqb (number_in s h) 0 ≡ true
-    → (verdict_of h ≡ Done) × (is_end h ≡ true → end_fits_of s (message_heard h) ≡ true)
+pub number_none : (s : Stream) (h : ReaderAnswer) → eqb (number_in s h) 0 ≡ true
+    → (h.verdict ≡ Done) × (is_end h ≡ true → end_fits_of s h.message ≡ true)
 unfolding number_in is_done
 number_none s h none = (
-  done_is (verdict_of h) (done (eqb (number_of (verdict_of h)) 0) refl none),
-  λ ends. fits (end_fits_of s (message_heard h)) (rw (done (eqb (number_of (verdict_of h)) 0) refl none, ends) at none),
+  done_is h.verdict (done (eqb (number_of h.verdict) 0) refl none),
+  λ ends. fits (end_fits_of s h.message) (rw (done (eqb (number_of h.verdict) 0) refl none, ends) at none),
 )
   where
-    done : (t : Bool) → eqb (number_of (verdict_of h)) 0 ≡ t
-        → eqb (pick t (pick (is_end h && not (end_fits_of s (message_heard h))) not_whole 0) (number_of (verdict_of h))) 0 ≡ true
+    done : (t : Bool) → eqb (number_of h.verdict) 0 ≡ t
+        → eqb (pick t (pick (is_end h && not (end_fits_of s h.message)) not_whole 0) (number_of h.verdict)) 0 ≡ true
         → t ≡ true
     done true e n = refl
     done false e n = sym e ∙ n
@@ -54,57 +52,49 @@ number_none s h none = (
     fits true n = refl
     fits false n = absurd (not_true_and_false false n refl)
 
-module _ (input : List ℕ) (place : ℕ) (within : place ≤ length input) (done : verdict_of (heard_at input place) ≡ Done) where
+module _ (input : List ℕ) (place : ℕ) (within : place ≤ length input) (done : (answer_at input place).verdict ≡ Done) where
   accepted : first_of (read_checks (drop place input)) ≡ Done
   accepted = sym (heard_verdict input place) ∙ done
 
-  is : heard_at input place ≡ accepted_heard place (drop place input)
-  is = heard_accepted input place accepted
+  is : answer_at input place ≡ answer_of (accepted_heard place (drop place input))
+  is = ap answer_of (heard_accepted input place accepted)
 
-  next_is : next_heard (heard_at input place) ≡ place + (length_width + length_at (drop place input))
+  next_is : (answer_at input place).next ≡ place + (length_width + length_at (drop place input))
   unfolding accepted_heard
-  next_is = ap next_heard is
+  next_is = ap (λ (h : ReaderAnswer). h.next) is
 
   -- the next place is behind it, and not behind the input
-  pub further : place < next_heard (heard_at input place)
+  pub further : place < (answer_at input place).next
   further = rw next_is (omega arith)
 
-  pub next_in : next_heard (heard_at input place) ≤ length input
+  pub next_in : (answer_at input place).next ≤ length input
   next_in =
       let follows : length_width + length_at (drop place input) ≤ length input - place =
       rw length-drop at (done_means_accepted (drop place input) accepted).follows in
       rw next_is (omega arith)
 
   -- the bytes up to the next place are those before it and the message's own
-  taken : take (next_heard (heard_at input place)) input
-      ≡ take place input ++ bytes_at input place (heard_at input place)
+  taken : take (answer_at input place).next input
+      ≡ take place input ++ bytes_at input place (answer_at input place)
   taken =
-      let sizes : next_heard (heard_at input place) ≡ place + (next_heard (heard_at input place) - place) = omega (arith, further) in
-      ap (λ (n : ℕ). take n input) sizes ∙ take-add place (next_heard (heard_at input place) - place) input
+      let sizes : (answer_at input place).next ≡ place + ((answer_at input place).next - place) = omega (arith, further) in
+      ap (λ (n : ℕ). take n input) sizes ∙ take-add place ((answer_at input place).next - place) input
 
-  -- an `end` is of its kind: where the kind is unknown, none is heard
-  end_kind : is_end (heard_at input place) ≡ true → kind_at (drop place input) ≡ end_message_kind
-  unfolding accepted_heard message_at
-  end_kind ends =
-      go (is_known_kind (kind_at (drop place input)))
-      (sym (ap known_kind is) ∙ eqb-true (known_kind (heard_at input place)) end_message_kind ends)
-    where
-      go : (known : Bool)
-          → (unwrap_or (pick known (Some (message_at (drop place input))) None) no_message).kind ≡ end_message_kind
-          → kind_at (drop place input) ≡ end_message_kind
-      go true h = h
-      go false h = let none : 0 ≡ end_message_kind = h in absurd (omega arith)
+  kind_is : (answer_at input place).kind ≡ kind_at (drop place input)
+  unfolding accepted_heard
+  kind_is = ap (λ (h : ReaderAnswer). h.kind) is
 
   -- an `end` is known, and its message is of its kind and has all of its places
-  end_known : is_end (heard_at input place) ≡ true
-      → (known_heard (heard_at input place) ≡ true) × ((message_heard (heard_at input place)).kind ≡ end_message_kind)
-      × (length (message_heard (heard_at input place)).fields ≡ places)
+  end_known : is_end (answer_at input place) ≡ true
+      → ((answer_at input place).known ≡ true) × ((answer_at input place).message.kind ≡ end_message_kind)
+      × (length (answer_at input place).message.fields ≡ places)
   unfolding accepted_heard is_known_kind message_at
   end_known ends =
-      let kind : kind_at (drop place input) ≡ end_message_kind = end_kind ends in (
-        ap known_heard is ∙ rw kind,
-        ap (λ (h : Hearing). (message_heard h).kind) is ∙ rw kind,
-        ap (λ (h : Hearing). length (message_heard h).fields) is
+      let kind : kind_at (drop place input) ≡ end_message_kind =
+      sym kind_is ∙ eqb-true (answer_at input place).kind end_message_kind ends in (
+        ap (λ (h : ReaderAnswer). h.known) is ∙ rw kind,
+        ap (λ (h : ReaderAnswer). h.message.kind) is ∙ rw kind,
+        ap (λ (h : ReaderAnswer). length h.message.fields) is
             ∙ rw kind
             (values_length (places_of end_message_kind) (drop (length_width + kind_width) (drop place input))
             ∙ kinds_have_places end_message_kind),
@@ -130,30 +120,30 @@ record Kept (s : Stream) (input : List ℕ) (place : ℕ) : Type 0 where
 module _ (input : List ℕ) (all : Bytes input) where
   -- the `end` is the last message
   at_last : (place : ℕ) (s : Stream) → place ≤ length input → Kept s input place
-      → verdict_of (heard_at input place) ≡ Done
-      → is_end (heard_at input place) ≡ true
-      → end_fits_of s (message_heard (heard_at input place)) ≡ true
-      → next_heard (heard_at input place) ≡ length input
+      → (answer_at input place).verdict ≡ Done
+      → is_end (answer_at input place) ≡ true
+      → end_fits_of s (answer_at input place).message ≡ true
+      → (answer_at input place).next ≡ length input
       → EndsSummed input
   unfolding end_fits_of
   at_last place s within kept done ends fits over =
-      let h : Hearing = heard_at input place in
+      let h : ReaderAnswer = answer_at input place in
       let known = end_known input place within done ends in
       let only = heard_only input place all done known.0 in
-      let size : length (encode (message_heard h)) ≡ length input - place = omega (arith, only.2, over) in
-      let rest : encode (message_heard h) ≡ drop place input =
-      only.1 ∙ take_all (length (encode (message_heard h))) (drop place input) (rw length-drop (omega arith)) in
-      let as_many : Bool = s.began && eqb (count_said (message_heard h)) s.count in
-      let as-summed : Bool = eqb (sum_said (message_heard h)) s.sum in
+      let size : length (encode h.message) ≡ length input - place = omega (arith, only.2, over) in
+      let rest : encode h.message ≡ drop place input =
+      only.1 ∙ take_all (length (encode h.message)) (drop place input) (rw length-drop (omega arith)) in
+      let as_many : Bool = s.began && eqb (count_said h.message) s.count in
+      let as-summed : Bool = eqb (sum_said h.message) s.sum in
       let began : s.began ≡ true = and_left s.began _ (and_left as_many as-summed fits) in
       record {
         front = take place input;
-        last = message_heard h;
+        last = h.message;
         is = sym (take-append-drop place input) ∙ ap (λ (l : List ℕ). take place input ++ l) (sym rest);
         ends = known.1;
         is_valid = only.0;
         full = known.2;
-        sum = eqb-true (sum_said (message_heard h)) s.sum (and_right as_many as-summed fits) ∙ kept.summed began;
+        sum = eqb-true (sum_said h.message) s.sum (and_right as_many as-summed fits) ∙ kept.summed began;
       }
 
   goes_on : (front more : List ℕ) → sum_on (sum_of front) more ≡ sum_of (front ++ more)
@@ -161,25 +151,25 @@ module _ (input : List ℕ) (all : Bytes input) where
   goes_on front more = sum_goes_on 0 front more
 
   keeps_on : (place : ℕ) (s : Stream) → place ≤ length input → Kept s input place
-      → verdict_of (heard_at input place) ≡ Done
-      → is_end (heard_at input place) ≡ false
-      → may_stand s (heard_at input place) ≡ true
-      → Kept (stream_after s (heard_at input place) (bytes_at input place (heard_at input place))) input
-      (next_heard (heard_at input place))
+      → (answer_at input place).verdict ≡ Done
+      → is_end (answer_at input place) ≡ false
+      → may_stand s (answer_at input place) ≡ true
+      → Kept (stream_after s (answer_at input place) (bytes_at input place (answer_at input place))) input
+      (answer_at input place).next
   unfolding may_stand stream_after
   keeps_on place s within kept done no_end may =
-      rw no_end (go (is_begin (heard_at input place)) s.began refl may)
+      rw no_end (go (is_begin (answer_at input place)) s.began refl may)
     where
       go : (begin began : Bool) → s.began ≡ began → pick begin (not began) began ≡ true
           → Kept
-          (pick begin (record { began = true; count = 1; sum = sum_of (bytes_at input place (heard_at input place)) })
+          (pick begin (record { began = true; count = 1; sum = sum_of (bytes_at input place (answer_at input place)) })
           (pick began
           (record {
             began = true;
             count = suc s.count;
-            sum = sum_on s.sum (bytes_at input place (heard_at input place));
+            sum = sum_on s.sum (bytes_at input place (answer_at input place));
           })
-          s)) input (next_heard (heard_at input place))
+          s)) input (answer_at input place).next
       go true true e m = absurd (not_true_and_false false m refl)
       go true false e m =
           record {
@@ -187,15 +177,15 @@ module _ (input : List ℕ) (all : Bytes input) where
                 λ yes.
                 sym (ap sum_of
                 (taken input place within done
-                ∙ ap (λ (n : ℕ). take n input ++ bytes_at input place (heard_at input place)) (kept.first e)));
+                ∙ ap (λ (n : ℕ). take n input ++ bytes_at input place (answer_at input place)) (kept.first e)));
             first = λ no. absurd (not_true_and_false true refl no);
           }
       go false true e m =
           record {
             summed =
                 λ yes.
-                ap (λ (n : ℕ). sum_on n (bytes_at input place (heard_at input place))) (kept.summed e)
-                ∙ goes_on (take place input) (bytes_at input place (heard_at input place))
+                ap (λ (n : ℕ). sum_on n (bytes_at input place (answer_at input place))) (kept.summed e)
+                ∙ goes_on (take place input) (bytes_at input place (answer_at input place))
                 ∙ sym (ap sum_of (taken input place within done));
             first = λ no. absurd (not_true_and_false true refl no);
           }
@@ -207,7 +197,7 @@ module _ (input : List ℕ) (all : Bytes input) where
   unfolding is_whole_from
   only_from zero place s within kept whole = absurd (not_true_and_false false whole refl)
   only_from (suc most) place s within kept whole =
-      let h : Hearing = heard_at input place in
+      let h : ReaderAnswer = answer_at input place in
       let none = number_none s h (and_left (eqb (number_in s h) 0) _ whole) in
       go (λ place' s' within' kept' whole'. only_from most place' s' within' kept' whole') (is_end h) refl none.0 none.1
       (and_right (eqb (number_in s h) 0) _ whole)
@@ -215,20 +205,20 @@ module _ (input : List ℕ) (all : Bytes input) where
       go : ((place' : ℕ) (s' : Stream) → place' ≤ length input → Kept s' input place'
           → is_whole_from most input place' s' ≡ true
           → EndsSummed input)
-          → (ends : Bool) → is_end (heard_at input place) ≡ ends → verdict_of (heard_at input place) ≡ Done
-          → (is_end (heard_at input place) ≡ true → end_fits_of s (message_heard (heard_at input place)) ≡ true)
-          → pick ends (eqb (next_heard (heard_at input place)) (length input))
-          (may_stand s (heard_at input place)
-          && is_whole_from most input (next_heard (heard_at input place))
-          (stream_after s (heard_at input place) (bytes_at input place (heard_at input place))))
+          → (ends : Bool) → is_end (answer_at input place) ≡ ends → (answer_at input place).verdict ≡ Done
+          → (is_end (answer_at input place) ≡ true → end_fits_of s (answer_at input place).message ≡ true)
+          → pick ends (eqb (answer_at input place).next (length input))
+          (may_stand s (answer_at input place)
+          && is_whole_from most input (answer_at input place).next
+          (stream_after s (answer_at input place) (bytes_at input place (answer_at input place))))
           ≡ true
           → EndsSummed input
       go again true e done fits over =
-          at_last place s within kept done e (fits e) (eqb-true (next_heard (heard_at input place)) (length input) over)
+          at_last place s within kept done e (fits e) (eqb-true (answer_at input place).next (length input) over)
       go again false e done fits more =
-          let may : Bool = may_stand s (heard_at input place) in
-          again (next_heard (heard_at input place))
-          (stream_after s (heard_at input place) (bytes_at input place (heard_at input place)))
+          let may : Bool = may_stand s (answer_at input place) in
+          again (answer_at input place).next
+          (stream_after s (answer_at input place) (bytes_at input place (answer_at input place)))
           (next_in input place within done)
           (keeps_on place s within kept done e (and_left may _ more))
           (and_right may _ more)

@@ -3,16 +3,19 @@ use Rattle.std.specs.Prelude.{◌≡◌, refl, Bool, true, false, List, [], ◌�
 use Rattle.paper.specs.Ranges.{unsigned}
 use Rattle.paper.specs.Verdicts.{is_done, first_of}
 use Rattle.sums.specs.Sums.{divided, bits_of, after_bits, after_bytes, sum_on, sum_of}
+use Rattle.paper.specs.declared.Verdict.TheVariants.{Done}
 use Rattle.paper_messages.specs.declared.Message.{Message}
+use Rattle.paper_messages.specs.declared.ReaderAnswer.{ReaderAnswer}
 use Rattle.paper_streams.specs.declared.Stream.{Stream}
 use Rattle.paper_messages.specs.Broadcast.{sent, all_sent}
 use Rattle.paper_messages.specs.Bytes.{bytes_of, spelled, complement, signed_of}
 use Rattle.paper_messages.specs.Fields.{reasons_message_kind, session_message_kind, fields_of, filled, places_of}
 use Rattle.paper_messages.specs.Messages.{body_of, total, length_of, encode, is_known_kind, in_ranges, valid}
-use Rattle.paper_messages.specs.Messages.{values_at, message_at, read_checks, accepted_heard, heard_at}
+use Rattle.paper_messages.specs.Messages.{values_at, message_at, read_checks, no_message, accepted_heard, heard_at, answer_at}
 use Rattle.paper_messages.specs.Records.{value_of, message}
 use Rattle.paper_streams.specs.Streams.{begin_message, end_message, begun, ended, whole_stream, no_stream, end_fits_of}
 use Rattle.paper_streams.specs.Streams.{number_in, stream_after, may_stand, is_whole_from, is_whole}
+use Rattle.paper_streams.specs.Alone.{stands_alone}
 
 -- ---- the messages
 
@@ -95,7 +98,7 @@ whole_are = (refl, refl, refl, refl)
 unfoldable pub end_judged : Stream → List ℕ → ℕ
 unfolding number_in end_fits_of heard_at accepted_heard read_checks first_of is_done is_known_kind valid in_ranges
     message_at values_at spelled signed_of complement length_of total places_of fields_of filled unsigned
-end_judged s bytes = number_in s (heard_at bytes 0)
+end_judged s bytes = number_in s (answer_at bytes 0)
 
 abbrev pub come : (count sum : ℕ) → Stream
 come count sum = record { began = true; count = count; sum = sum }
@@ -110,3 +113,20 @@ pub ends_are : (end_judged (come 3 1847726241) end_bytes ≡ 0)
     × (end_judged no_stream session_bytes ≡ 0)
 unfolding end_judged end_bytes session_bytes
 ends_are = (refl, refl, refl, refl, refl, refl, refl, refl)
+
+-- ---- what counts is the kind that is heard
+
+-- an answer of a kind with no message, as no reader gives it of `begin` and `end`: what begins and ends a stream is the kind
+unfoldable pub of_kind : ℕ → ReaderAnswer
+of_kind kind = record { verdict = Done; known = false; kind = kind; length = 2; next = 6; message = no_message }
+
+pub kinds_heard_are : (stream_after no_stream (of_kind 6) [] ≡ come 1 0)
+    × (stream_after (come 3 5) (of_kind 7) [] ≡ no_stream)
+    × (number_in (come 3 5) (of_kind 6) ≡ 0)
+    × (number_in (come 3 5) (of_kind 7) ≡ 25)
+    × (may_stand no_stream (of_kind 6) ≡ true)
+    × (may_stand (come 3 5) (of_kind 6) ≡ false)
+    × (stands_alone 0 no_stream (of_kind 6) ≡ true)
+    × (stands_alone 6 (come 3 5) (of_kind 6) ≡ false)
+unfolding of_kind number_in end_fits_of stream_after may_stand stands_alone is_done sum_of sum_on after_bytes unsigned complement
+kinds_heard_are = (refl, refl, refl, refl, refl, refl, refl, refl)

@@ -7,13 +7,13 @@ use Rattle.paper.specs.Ranges.{unsigned_at}
 use Rattle.paper.specs.Verdicts.{number_of, is_done}
 use Rattle.sums.specs.Sums.{sum_on, sum_of}
 use Rattle.paper_messages.specs.declared.Message.{Message}
+use Rattle.paper_messages.specs.declared.ReaderAnswer.{ReaderAnswer}
 use Rattle.paper_streams.specs.declared.Stream.{Stream}
 use Rattle.paper_messages.specs.Broadcast.{all_sent}
 use Rattle.paper_messages.specs.Bytes.{complement, signed_of}
 use Rattle.paper_messages.specs.Fields.{begin_message_kind, end_message_kind, stream_version, sum_width}
-use Rattle.paper_messages.specs.Messages.{encode, heard_at}
+use Rattle.paper_messages.specs.Messages.{Hearing, encode, message_heard, answer_at}
 use Rattle.paper_messages.specs.Records.{value_of, message}
-use Rattle.paper_messages.specs.Messages.{Hearing, known_heard, message_heard, next_heard, verdict_of}
 
 -- ---- the writer: what a whole stream is
 
@@ -45,11 +45,11 @@ no_stream = record { began = false; count = 0; sum = 0 }
 abbrev pub known_kind : Hearing → ℕ
 known_kind h = (message_heard h).kind
 
-abbrev pub is_begin : Hearing → Bool
-is_begin h = eqb (known_kind h) begin_message_kind
+abbrev pub is_begin : ReaderAnswer → Bool
+is_begin h = eqb h.kind begin_message_kind
 
-abbrev pub is_end : Hearing → Bool
-is_end h = eqb (known_kind h) end_message_kind
+abbrev pub is_end : ReaderAnswer → Bool
+is_end h = eqb h.kind end_message_kind
 
 -- what an `end` says
 abbrev pub count_said : Message → ℕ
@@ -67,26 +67,26 @@ abbrev pub not_whole : ℕ
 not_whole = 25
 
 -- THE NUMBER THAT IS ANSWERED: 21, 22 and 23 as of every message, and then 25
-unfoldable pub number_in : Stream → Hearing → ℕ
+unfoldable pub number_in : Stream → ReaderAnswer → ℕ
 number_in s h =
-    pick (is_done (verdict_of h)) (pick (is_end h && not (end_fits_of s (message_heard h))) not_whole 0) (number_of (verdict_of h))
+    pick (is_done h.verdict) (pick (is_end h && not (end_fits_of s h.message)) not_whole 0) (number_of h.verdict)
 
 -- how far the stream is heard behind a message of these bytes: `begin` begins one, `end` ends it, and between them every
 -- message counts, an unknown one too. What no `begin` stands before is counted by nobody
-unfoldable pub stream_after : Stream → Hearing → (bytes : List ℕ) → Stream
+unfoldable pub stream_after : Stream → ReaderAnswer → (bytes : List ℕ) → Stream
 stream_after s h bytes =
     pick (is_begin h) (record { began = true; count = 1; sum = sum_of bytes })
     (pick (is_end h) no_stream
     (pick s.began (record { began = true; count = suc s.count; sum = sum_on s.sum bytes }) s))
 
 -- the bytes of the message at a place
-abbrev pub bytes_at : (input : List ℕ) → (place : ℕ) → Hearing → List ℕ
-bytes_at input place h = take (next_heard h - place) (drop place input)
+abbrev pub bytes_at : (input : List ℕ) → (place : ℕ) → ReaderAnswer → List ℕ
+bytes_at input place h = take (h.next - place) (drop place input)
 
 -- ---- ONE WHOLE STREAM
 
 -- whether a message may stand where the stream is so far: `begin` first, and every other behind it
-unfoldable pub may_stand : Stream → Hearing → Bool
+unfoldable pub may_stand : Stream → ReaderAnswer → Bool
 may_stand s h = pick (is_begin h) (not s.began) s.began
 
 -- from a place on, in at most so many messages: nothing is refused, `begin` stands first and nowhere else, and `end`
@@ -94,11 +94,11 @@ may_stand s h = pick (is_begin h) (not s.began) s.began
 unfoldable pub is_whole_from : (most : ℕ) → (input : List ℕ) → (place : ℕ) → Stream → Bool
 is_whole_from zero input place s = false
 is_whole_from (suc most) input place s =
-    let h : Hearing = heard_at input place in
+    let h : ReaderAnswer = answer_at input place in
     eqb (number_in s h) 0
-    && pick (is_end h) (eqb (next_heard h) (length input))
+    && pick (is_end h) (eqb h.next (length input))
     (may_stand s h
-    && is_whole_from most input (next_heard h) (stream_after s h (bytes_at input place h)))
+    && is_whole_from most input h.next (stream_after s h (bytes_at input place h)))
 
 -- a message has bytes, so that no input has more messages than bytes
 unfoldable pub is_whole : (input : List ℕ) → Bool
@@ -108,9 +108,9 @@ is_whole input = is_whole_from (length input) input 0 no_stream
 unfoldable pub messages_from : (most : ℕ) → (input : List ℕ) → (place : ℕ) → List Message
 messages_from zero input place = []
 messages_from (suc most) input place =
-    let h : Hearing = heard_at input place in
-    pick (is_done (verdict_of h))
-    (pick (known_heard h) (message_heard h ∷ []) [] ++ messages_from most input (next_heard h)) []
+    let h : ReaderAnswer = answer_at input place in
+    pick (is_done h.verdict)
+    (pick h.known (h.message ∷ []) [] ++ messages_from most input h.next) []
 
 unfoldable pub messages_in : (input : List ℕ) → List Message
 messages_in input = messages_from (length input) input 0
