@@ -28,13 +28,17 @@ impl Model for Word {
 impl Word {
     ghost use Rattle.std.specs.Prelude.{◌≡◌, ◌≤◌, length};
 
-    // The i-th word, the program's name at 0; empty where there is no such word.
+    // The i-th word, the program's name at 0; empty where there is no such word. It is written where it stands: its room
+    // is large, and a copy of it takes as long as all else that is done here.
     pub fn at(rt: HostRuntime, i: usize) -> Word
         ensures { length result ≤ 131072 }
     {
-        let mut bytes = [0; WORD_ROOM];
-        let length = arg(rt, i, &mut bytes);
-        Word { bytes, length }
+        let mut word = Word {
+            bytes: [0; WORD_ROOM],
+            length: 0,
+        };
+        word.length = arg(rt, i, &mut word.bytes);
+        word
     }
 
     pub fn as_slice(&self) -> &[u8]
