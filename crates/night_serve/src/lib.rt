@@ -110,7 +110,7 @@ const BARE_MOST: usize = 11 + 21 + DAY_NUMBERS * 22 + 1;
 const LINE_MOST: usize = BARE_MOST + Row::ALL_NUMBERS_MOST * 22;
 
 // The room for what is printed.
-const SHEET_ROOM: usize = SECURITIES_MOST * LINE_MOST + ASKED_MOST * BARE_MOST;
+pub const SHEET_ROOM: usize = SECURITIES_MOST * LINE_MOST + ASKED_MOST * BARE_MOST;
 
 // What is printed, gathered before it is handed over.
 #[derive(Drop)]

@@ -13,10 +13,10 @@ use night_protocol::{ASKED_MOST, DAY_NUMBERS, SECURITIES_MOST, TEXT_MOST};
 use paper::Row;
 
 // The room for ids: those of a text, and behind them those that are asked for.
-const IDS_ROOM: usize = SECURITIES_MOST + ASKED_MOST;
+pub const IDS_ROOM: usize = SECURITIES_MOST + ASKED_MOST;
 
 // The room for the numbers of rows.
-const FIGURES_ROOM: usize = SECURITIES_MOST * Row::ALL_NUMBERS_MOST;
+pub const FIGURES_ROOM: usize = SECURITIES_MOST * Row::ALL_NUMBERS_MOST;
 
 // The securities of a text: how many there are, their ids in the order in which they first occur, how many rows each
 // has, and the rows' numbers, so many places for each security.
