@@ -23,7 +23,7 @@ use Rattle.text_input.specs.Input.{line_length, Unbroken, unread, Stands, Over, 
 use Rattle.text_turn.specs.declared.State.{State}
 use Rattle.text_turn.specs.Turn.{start_state}
 use Rattle.paper.specs.Lists.{pick}
-use Rattle.text_turn.specs.Tells.{halted, Goes, wait, handed}
+use Rattle.text_turn.specs.Tells.{halted, waiting, Goes, wait, handed}
 use Rattle.text_serve.specs.Serve.{evening_of, Turns, handed_of, Run, starts, goes, Each, joined, most_lines, Cut}
 use Rattle.text_serve.specs.Serve.{Serves}
 
@@ -71,7 +71,7 @@ pub record Sofar (telling : Telling) (t : List Record) (b : List ℕ) (s : State
   pub run : Run telling t b₀ lines got told b s t' o
   pub unbroken : Each lines
   pub evening : evening_of s t' ≡ after_all lines (start_evening t)
-  pub said : told ++ o ≡ answers telling lines (start_evening t)
+  pub said : told ++ waiting s o ≡ answers telling lines (start_evening t)
   pub delivered : Counted 0 (length got) s.input.read.all
   pub handed : Counted 0 (length told) s.told.all
   pub one_way : s.telling ≡ telling
@@ -79,8 +79,8 @@ pub record Sofar (telling : Telling) (t : List Record) (b : List ℕ) (s : State
       ≡ stream_on telling begun_stream (length (all_messages telling lines (start_evening t)))
       (answers telling lines (start_evening t))
   pub stands : Stands b s.input
-  pub room : length o + answer_most ≤ bufferRoom
-  pub last : s.input.left ≡ 0 → o ≡ []
+  pub room : length (waiting s o) + answer_most ≤ bufferRoom
+  pub last : s.input.left ≡ 0 → s.waits ≡ false
   pub are : Reached got lines b s
 
 -- at the start nothing is read
@@ -219,8 +219,8 @@ module _ {telling : Telling} {t : List Record} {b : List ℕ} {s : State} {u : L
   behind_both true e g = goes_on g turn.next.are
   behind_both false e g = stops g e turn.next.are
 
-  behind : {said w : List ℕ} {q : State} → Goes turn.behind s.told said w q → Behind q
-  behind (wait waiting same g) = goes_on g turn.next.are
+  behind : {w : List ℕ} {q : State} → Goes turn.behind s.told w q → Behind q
+  behind (wait waits same g) = goes_on g turn.next.are
   behind {q = q} (handed none hands g) = behind_both (took_all q.told) refl g
 
   -- ---- the output
@@ -229,9 +229,9 @@ module _ {telling : Telling} {t : List Record} {b : List ℕ} {s : State} {u : L
   text = answer s.telling turn.line (evening_of s u)
 
   -- all that was told so far, and the answer, are the answers to the lines
-  said_so : so.told ++ (o ++ text) ≡ answers telling all start
+  said_so : so.told ++ (waiting s o ++ text) ≡ answers telling all start
   said_so =
-      sym (append_assoc so.told o text)
+      sym (append_assoc so.told (waiting s o) text)
       ∙ ap (λ (z : List ℕ). z ++ text) so.said
       ∙ ap (λ (z : List ℕ). answers telling so.lines start ++ z) text_is
       ∙ sym (answers_one telling so.lines turn.line start)
@@ -253,20 +253,20 @@ module _ {telling : Telling} {t : List Record} {b : List ℕ} {s : State} {u : L
 
   -- what is known of the answers behind the turn: they wait on, or they were handed to `write`
   pub record SaidSofar (told w : List ℕ) (q : State) : Type 0 where
-    pub said : told ++ w ≡ answers telling all start
+    pub said : told ++ waiting q w ≡ answers telling all start
     pub handed : Counted 0 (length told) q.told.all
 
-  told_on : {i : Input} {said w : List ℕ} {q : State} → said ≡ o ++ text → (g : Goes i s.told said w q)
+  told_on : {i : Input} {w : List ℕ} {q : State} → w ≡ waiting s o ++ text → (g : Goes i s.told w q)
       → SaidSofar (so.told ++ handed_of g) w q
   told_on e (wait waits same g) =
       record {
         said = rw (append-nil so.told, waits, e) said_so;
         handed = rw (append-nil so.told, same) so.handed;
       }
-  told_on {said = said} e (handed none hands g) =
+  told_on {w = w} e (handed none hands g) =
       record {
-        said = rw (none, append-nil (so.told ++ said), e) said_so;
-        handed = rw (length-append so.told said) (counted_on _ _ _ _ _ so.handed hands.count);
+        said = rw (none, append-nil (so.told ++ w), e) said_so;
+        handed = rw (length-append so.told w) (counted_on _ _ _ _ _ so.handed hands.count);
       }
 
   -- ---- the turn
@@ -275,7 +275,7 @@ module _ {telling : Telling} {t : List Record} {b : List ℕ} {s : State} {u : L
   onward = behind turn.goes
 
   output : SaidSofar (so.told ++ handed_of turn.goes) o' r
-  output = told_on refl turn.goes
+  output = told_on turn.wrote turn.goes
 
   pub one_more : Sofar telling t b' r u' o'
   one_more =
@@ -328,7 +328,8 @@ module _ {telling : Telling} {t : List Record} {b : List ℕ} {s : State} {u : L
         told = so.told;
         b₀ = so.b₀;
         b = b;
-        run = rw (so.last over) at so.run;
+        o = o;
+        run = so.run;
         cut = cut so.are;
         evening = so.evening;
         said = all_said;
@@ -337,4 +338,5 @@ module _ {telling : Telling} {t : List Record} {b : List ℕ} {s : State} {u : L
         one_way = so.one_way;
         streamed = so.streamed;
         over = over;
+        none_waits = so.last over;
       }

@@ -19,7 +19,7 @@ use Rattle.text_evidence.specs.declared.Written.{Written}
 use Rattle.text_turn.specs.declared.State.{State}
 use Rattle.text_turn.specs.declared.Prepared.{Prepared}
 use Rattle.text_turn.specs.Turn.{Prepares}
-use Rattle.text_turn.specs.Tells.{Goes, Tells}
+use Rattle.text_turn.specs.Tells.{waiting, Goes, Tells}
 use Rattle.text_ask.specs.WithReasons.{Asks}
 use Rattle.text_serve.specs.Serve.{evening_of, Turns}
 use Rattle.text_serve.proofs.Saying.{told_as, counted_as}
@@ -82,10 +82,12 @@ module _ (t t' : List Record) {b : List ℕ} {s : State} {b' : List ℕ} {p : Pr
       (answer s.telling heard.line (evening_of s t))
   stream_is = told.stream ∙ rw (count_is, text_is, heard.telling, heard.stream)
 
-  goes_as : Goes p.state.input s.told (o ++ answer s.telling heard.line (evening_of s t)) o' r
-  goes_as =
-      subst (λ (w : Written). Goes p.state.input w (o ++ answer s.telling heard.line (evening_of s t)) o' r) heard.told
-      (subst (λ (u : List ℕ). Goes p.state.input p.state.told (o ++ u) o' r) text_is told.goes)
+  -- the answer stands behind those that wait
+  wrote_as : o' ≡ waiting s o ++ answer s.telling heard.line (evening_of s t)
+  wrote_as = told.wrote ∙ rw (heard.waits, text_is)
+
+  goes_as : Goes p.state.input s.told o' r
+  goes_as = subst (λ (w : Written). Goes p.state.input w o' r) heard.told told.goes
 
   -- A LINE THAT IS HEARD, PERFORMED AND ANSWERED IS ONE TURN
   pub turned : Turns b s t o b' r t' o'
@@ -95,6 +97,8 @@ module _ (t t' : List Record) {b : List ℕ} {s : State} {b' : List ℕ} {p : Pr
         behind = p.state.input;
         next = heard.next;
         evening = evening_is;
+        wrote = wrote_as;
+        most = rw heard.waits at told.most;
         goes = goes_as;
         telling = told.telling ∙ heard.telling;
         stream = stream_is;

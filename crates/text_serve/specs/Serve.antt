@@ -16,7 +16,7 @@ use Rattle.text_evidence.specs.Evidence.{is_well, took_all, Counted, Hands}
 use Rattle.text_input.specs.Input.{Unbroken, Over, Next}
 use Rattle.text_turn.specs.declared.State.{State}
 use Rattle.text_turn.specs.Turn.{start_state}
-use Rattle.text_turn.specs.Tells.{Goes, wait, handed}
+use Rattle.text_turn.specs.Tells.{waiting, Goes, wait, handed}
 use Rattle.text_protocol.specs.Answers.{answer_most}
 
 -- the evening that a state and a table are
@@ -25,36 +25,39 @@ evening_of s t = record { number = s.number; kept = s.kept; table = t }
 
 -- ---- one turn
 
--- ONE TURN, from the buffer b, the state s, the table t and the answers o that wait: `line` is the next line of the input,
+-- ONE TURN, from the buffer b, the state s, the table t and the answers o: `line` is the next line of the input,
 -- whatever pieces `read` delivered it in, and `behind` is the input behind it. The evening behind it is the one that
--- the definition has, and so is its answer, told in the way that the state has: it stands behind those that wait, and a
--- stream of messages is carried on over it. Answers wait only while a whole line stands in the buffer, and none waits
--- where no line is left to hear
+-- the definition has, and so is its answer, told in the way that the state has: in o', the answers behind the turn, it
+-- stands behind those that wait, and a stream of messages is carried on over it. All of o' wait on, or all of o' were
+-- handed to `write`. Answers wait only while a whole line stands in the buffer, and none waits where no line is left to
+-- hear
 pub record Turns (b : List ℕ) (s : State) (t : List Record) (o b' : List ℕ) (r : State) (t' : List Record) (o' : List ℕ)
     : Type 0 where
   pub line : List ℕ
   pub behind : Input
   pub next : Next b s.input b' behind line
   pub evening : evening_of r t' ≡ after line (evening_of s t)
-  pub goes : Goes behind s.told (o ++ answer s.telling line (evening_of s t)) o' r
+  pub wrote : o' ≡ waiting s o ++ answer s.telling line (evening_of s t)
+  pub most : length o' ≤ length (waiting s o) + answer_most
+  pub goes : Goes behind s.told o' r
   pub telling : r.telling ≡ s.telling
   pub stream : r.stream
       ≡ stream_on s.telling s.stream (length (line_messages s.telling line (evening_of s t)))
       (answer s.telling line (evening_of s t))
-  pub room : length o' + answer_most ≤ room
-  pub prompt : r.input.len ≤ r.input.end → o' ≡ []
-  pub last : r.input.left ≡ 0 → o' ≡ []
+  pub room : length (waiting r o') + answer_most ≤ room
+  pub prompt : r.input.len ≤ r.input.end → r.waits ≡ false
+  pub last : r.input.left ≡ 0 → r.waits ≡ false
 
--- what a turn hands to `write`: nothing where the answers wait on
-abbrev pub handed_of : {i : Input} {told : Written} {said o : List ℕ} {r : State} → Goes i told said o r → List ℕ
-handed_of (wait waiting same goes_on) = []
-handed_of {said = said} (handed none hands goes_on) = said
+-- what a turn hands to `write`, of the answers o that the code has behind it: all of them; nothing where they wait on
+abbrev pub handed_of : {i : Input} {told : Written} {o : List ℕ} {r : State} → Goes i told o r → List ℕ
+handed_of (wait waits same goes_on) = []
+handed_of {o = o} (handed none hands goes_on) = o
 
 -- ---- every turn
 
--- TURNS ONE AFTER THE OTHER, from the table t and the buffer b₀ on, where no answer waits: each starts where the last one
--- left the buffer, the state, the table and the answers. `lines` are the lines, `got` is what `read` delivered and
--- `told` what was handed to `write`, each in order
+-- TURNS ONE AFTER THE OTHER, from the table t and the buffer b₀ on, with no answer before them: each starts where the
+-- last one left the buffer, the state, the table and the answers. `lines` are the lines, `got` is what `read` delivered
+-- and `told` what was handed to `write`, each in order: the bytes of the answers that the code had behind its turns
 pub data Run (telling : Telling) (t : List Record) (b₀ : List ℕ)
     : (lines : List (List ℕ)) (got told b : List ℕ) → State → List Record → (o : List ℕ) → Type 0 where
   starts : Run telling t b₀ [] [] [] b₀ (start_state telling) t []
@@ -100,7 +103,8 @@ pub record Serves (telling : Telling) (t : List Record) (r : State) (t' : List R
   pub told : List ℕ
   pub b₀ : List ℕ
   pub b : List ℕ
-  pub run : Run telling t b₀ lines got told b r t' []
+  pub o : List ℕ
+  pub run : Run telling t b₀ lines got told b r t' o
   pub cut : Cut got lines r.input.read r.told
   pub evening : evening_of r t' ≡ after_all lines (start_evening t)
   pub said : told ≡ answers telling lines (start_evening t)
@@ -111,6 +115,7 @@ pub record Serves (telling : Telling) (t : List Record) (r : State) (t' : List R
       ≡ stream_on telling begun_stream (length (all_messages telling lines (start_evening t)))
       (answers telling lines (start_evening t))
   pub over : r.input.left ≡ 0
+  pub none_waits : r.waits ≡ false
 
 -- ---- the end of a stream
 

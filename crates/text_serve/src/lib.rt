@@ -8,6 +8,7 @@ ghost use Rattle.text_input.specs.Input.{Stands};
 ghost use Rattle.text_ask.specs.WithReasons.{Asks};
 ghost use Rattle.text_serve.specs.Places.{places_most, entry_of, note_of, Sound};
 ghost use Rattle.text_serve.specs.Serve.{Turns, Serves, Closes};
+ghost use Rattle.text_turn.specs.Tells.{waiting};
 ghost use Rattle.text_bytes.specs.Bytes.{room};
 ghost use Rattle.text_protocol.specs.Answers.{answer_most};
 ghost use Rattle.text_protocol.specs.Names.{evaluate_count};
@@ -123,7 +124,7 @@ pub fn step<'a, 'b>(
     places: &'a mut [usize; PLACES],
     s: State,
 ) -> State
-    requires { (Stands buf.old s.input) × (length out.old + answer_most ≤ room) × Sound t.old places.old }
+    requires { (Stands buf.old s.input) × (length (waiting s out.old) + answer_most ≤ room) × Sound t.old places.old }
     ensures { (Turns buf.old s t.old out.old
         buf.new result t.new out.new) × Sound t.new places.new }
 {

@@ -23,6 +23,7 @@ pub prepared : (b : List ℕ) (s : State) (b' : List ℕ) (h : Heard) (xs : List
             input = h.input;
             number = s.number;
             kept = w.kept;
+            waits = s.waits;
             told = s.told;
             telling = s.telling;
             stream = s.stream;
@@ -44,6 +45,7 @@ prepared b s b' h xs w asked p q e =
       asked = e;
       telling = refl;
       number = refl;
+      waits = refl;
       told = refl;
       there = p.there;
       stream = refl;

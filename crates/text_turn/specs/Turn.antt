@@ -1,5 +1,5 @@
 -- The first half of a turn, before the table is asked, and where the first turn starts.
-use Rattle.std.specs.Prelude.{◌≡◌, List, ℕ, ℤ}
+use Rattle.std.specs.Prelude.{◌≡◌, false, List, ℕ, ℤ}
 use Rattle.text_evening.specs.declared.Telling.{Telling}
 use Rattle.text_protocol.specs.Kept.{none_kept}
 use Rattle.text_protocol.specs.Line.{meaning}
@@ -22,18 +22,20 @@ pub record Prepares (b : List ℕ) (s : State) (b' : List ℕ) (r : Prepared) (x
   pub asked : r.asked ≡ asks_why s.telling
   pub telling : r.state.telling ≡ s.telling
   pub number : r.state.number ≡ s.number
+  pub waits : r.state.waits ≡ s.waits
   pub told : r.state.told ≡ s.told
   pub there : StandsAt b' r.from r.to line
   pub stream : r.state.stream ≡ s.stream
 
--- at the start nothing is read and nothing is kept, the first line is the next, and of a stream `begin` is
--- told; `telling` is how lines are told, from the start to the end
+-- at the start nothing is read, nothing is kept and nothing waits, the first line is the next, and of a stream `begin`
+-- is told; `telling` is how lines are told, from the start to the end
 abbrev pub start_state : Telling → State
 start_state telling =
     record {
       input = record { at = 0; end = 0; len = 0; left = last_number; read = unread };
       number = 1;
       kept = none_kept;
+      waits = false;
       told = unwritten;
       telling = telling;
       stream = begun_stream;

@@ -1,12 +1,13 @@
 // The second half of a turn, after the table is asked: the answer is told. It waits with those before it until they are
-// due, and all that wait are then handed to `write`, with its evidence.
+// due, and all that wait are then handed to `write`, with its evidence. What was handed over stays in the text until
+// the next answer is told: a contract speaks of what stands there at the return, and so of the bytes that were written.
 ghost use Rattle.std.specs.Prelude.{◌≡◌, false, ◌+◌, ◌≤◌, ◌<◌, length};
 ghost use Rattle.paper.specs.Lists.{pick};
 ghost use Rattle.text_bytes.specs.Bytes.{room};
 ghost use Rattle.text_protocol.specs.Answers.{answer_most};
 ghost use Rattle.text_evening.specs.Evening.{number_after};
 ghost use Rattle.text_evening.specs.Streamed.{stream_on};
-ghost use Rattle.text_turn.specs.Tells.{halted, Tells};
+ghost use Rattle.text_turn.specs.Tells.{halted, waiting, Tells};
 
 use crate::{Prepared, State};
 use paper_streams::Stream;
@@ -74,25 +75,30 @@ fn carried(bytes: &[u8], telling: Telling, more: u64, stream: Stream) -> Stream
 
 // Tells the answer to a line: it is appended to those that wait, and they are written where they are due.
 pub fn tell(stdout: Stdout, out: &mut Text, p: Prepared, a: Performed) -> State
-    requires { length out.old + answer_most ≤ room }
+    requires { length (waiting p.state out.old) + answer_most ≤ room }
     ensures { Tells out.old p a out.new result }
 {
     let s = p.state;
+    if !s.waits {
+        out.clear();
+    }
     let from = out.length();
     say(out, s.telling, p.ask, s.number, p.beside, a);
     let more = count(s.telling, p.ask, s.number, a.answer.verdict);
     let mut input = s.input;
     let mut told = s.told;
+    let mut waits = true;
     let stream = carried(&out.as_slice()[from..], s.telling, more, s.stream);
     if is_due(input, out.length()) {
         told = hand(stdout, out.as_slice(), out.length(), told);
         input = stopped(input, told.took_all());
-        out.clear();
+        waits = false;
     }
     State {
         input,
         number: number_after(s.number),
         kept: s.kept,
+        waits,
         told,
         telling: s.telling,
         stream,

@@ -20,12 +20,14 @@ use text_line::numbers::Numbers;
 use text_protocol::{Ask, Kept, evaluate_place};
 
 // What goes on from line to line: what is left of the input, the number of the next line, what is kept of the interest
-// lines, the evidence of what was handed to `write`, how lines are told, and how far the stream of messages is told.
+// lines, whether the answers that are gathered wait to be written or were handed to `write`, the evidence of what was,
+// how lines are told, and how far the stream of messages is told.
 #[derive(Clone, Copy)]
 pub struct State {
     pub input: Input,
     pub number: u64,
     pub kept: Kept,
+    pub waits: bool,
     pub told: Written,
     pub telling: Telling,
     pub stream: Stream,
@@ -90,6 +92,7 @@ pub fn start(telling: Telling) -> State
         },
         number: 1,
         kept: text_call::kept::none(),
+        waits: false,
         told: text_evidence::unwritten(),
         telling,
         stream: Stream {
