@@ -4,9 +4,12 @@
 // are performed and not told.
 #![tactic(auto)]
 
-use program_words::Word;
+use program_words::{WORD_ROOM, Word};
 use text_protocol::Item;
 use text_word::same_bytes;
+
+// The room for the first word: more than `--from` has. A longer word is none that there is.
+const OPTION_ROOM: usize = 16;
 
 // The line whose messages are the first that are told, by its number from 1 on; none where the words say none.
 fn first_told(rt: HostRuntime) -> Option<u64> {
@@ -14,10 +17,12 @@ fn first_told(rt: HostRuntime) -> Option<u64> {
     if count <= 1 {
         return Some(1);
     }
-    if count != 3 || !same_bytes(Word::at(rt, 1).as_slice(), b"--from") {
+    let option: Word<OPTION_ROOM> = Word::at(rt, 1);
+    if count != 3 || !same_bytes(option.as_slice(), b"--from") {
         return None;
     }
-    match text_word::item_of(Word::at(rt, 2).as_slice()) {
+    let number: Word<WORD_ROOM> = Word::at(rt, 2);
+    match text_word::item_of(number.as_slice()) {
         Item::One(n) if 1 <= n => Some(exact::unsigned(n)),
         _ => None,
     }

@@ -6,7 +6,7 @@ ghost use Rattle.exchange_protocol.specs.Exchange.{text_most};
 ghost use Rattle.exchange_serve.specs.Rows.{Asks, Answers};
 
 use exchange_serve::{Served, TEXT_ROOM};
-use program_words::{Word, report};
+use program_words::{WORD_ROOM, Word, report};
 use text_out::Text;
 
 fn text_buffer() -> [u8; TEXT_ROOM]
@@ -26,7 +26,8 @@ fn asked(rt: HostRuntime) -> Option<u64>
     if text_evidence::arg_count(rt) != 2 {
         return None;
     }
-    exchange_serve::id_of(Word::at(rt, 1).as_slice())
+    let word: Word<WORD_ROOM> = Word::at(rt, 1);
+    exchange_serve::id_of(word.as_slice())
 }
 
 // What standard input says of a security is handed to standard output.

@@ -5,6 +5,9 @@
 use program_words::Word;
 use text_word::same_bytes;
 
+// The room for a word: more than `--whole` has. A longer word is none that there is.
+const WORD_ROOM: usize = 16;
+
 // What the arguments ask for: the lines; the lines, and one whole stream; or nothing that there is. Its words say more
 // than an Option of a flag would.
 #[derive(Drop)]
@@ -19,7 +22,8 @@ fn asked(rt: HostRuntime) -> Listens {
     if count < 2 {
         return Listens::Lines;
     }
-    if count == 2 && same_bytes(Word::at(rt, 1).as_slice(), b"--whole") {
+    let word: Word<WORD_ROOM> = Word::at(rt, 1);
+    if count == 2 && same_bytes(word.as_slice(), b"--whole") {
         return Listens::Whole;
     }
     Listens::Not

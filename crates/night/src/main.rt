@@ -9,7 +9,7 @@ ghost use Rattle.night_serve.specs.Serving.{OfWord, Asks, Answered};
 use night_protocol::{TEXT_MOST, WORDS_MOST};
 use night_serve::reading::Securities;
 use night_serve::{Served, Sheet, Taken};
-use program_words::{Word, report};
+use program_words::{WORD_ROOM, Word, report};
 use text_out::Text;
 use text_protocol::{Item, Pairs};
 
@@ -40,7 +40,8 @@ fn say_usage(rt: HostRuntime) {
 fn word_at(rt: HostRuntime, i: usize) -> Item
     ensures { OfWord result }
 {
-    text_word::item_of(Word::at(rt, i).as_slice())
+    let word: Word<WORD_ROOM> = Word::at(rt, i);
+    text_word::item_of(word.as_slice())
 }
 
 // What the words ask for.

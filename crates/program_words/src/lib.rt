@@ -6,35 +6,36 @@ use std::marker::Model;
 use text_evidence::{Delivered, Written, arg};
 
 // No argument is longer on Linux.
-const WORD_ROOM: usize = 131_072;
+pub const WORD_ROOM: usize = 131_072;
 
-// A word that the program was started with.
+// A word that the program was started with, in so much room as its program gives it: a program that knows which words it
+// takes needs no more room than they have.
 #[derive(Drop)]
-pub struct Word {
-    bytes: [u8; WORD_ROOM],
+pub struct Word<const ROOM: usize> {
+    bytes: [u8; ROOM],
     length: usize,
 }
 
-impl Model for Word {
+impl<const ROOM: usize> Model for Word<ROOM> {
     ghost use Rattle.std.specs.Prelude.{ℕ, List, ◌≤◌, take};
 
     ghost Value = { List ℕ };
 
     ghost view = { λ w. take w.length w.bytes };
 
-    ghost invariant = { λ w. w.length ≤ 131072 };
+    ghost invariant = { λ w. w.length ≤ ROOM };
 }
 
-impl Word {
+impl<const ROOM: usize> Word<ROOM> {
     ghost use Rattle.std.specs.Prelude.{◌≡◌, ◌≤◌, length};
 
-    // The i-th word, the program's name at 0; empty where there is no such word. It is written where it stands: its room
-    // is large, and a copy of it takes as long as all else that is done here.
-    pub fn at(rt: HostRuntime, i: usize) -> Word
-        ensures { length result ≤ 131072 }
+    // The i-th word, the program's name at 0; empty where there is no such word, or no room for it. It is written where
+    // it stands: a copy of so much room takes as long as all else that is done here.
+    pub fn at(rt: HostRuntime, i: usize) -> Word<ROOM>
+        ensures { length result ≤ ROOM }
     {
         let mut word = Word {
-            bytes: [0; WORD_ROOM],
+            bytes: [0; ROOM],
             length: 0,
         };
         word.length = arg(rt, i, &mut word.bytes);
