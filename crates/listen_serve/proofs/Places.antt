@@ -17,7 +17,8 @@ use Rattle.paper.specs.Ranges.{within}
 use Rattle.paper.specs.Verdicts.{number_of, is_done, first_of}
 use Rattle.paper.proofs.Logic.{and_right, not_false, not_true_and_false}
 use Rattle.paper_messages.specs.Messages.{length_width, length_least, length_most, length_at, read_checks, answer_of}
-use Rattle.paper_messages.specs.Messages.{accepted_heard, heard_at, answer_at, length_of, is_known_kind, valid, kind_at, message_at}
+use Rattle.paper_messages.specs.Messages.{accepted_heard, heard_at, answer_at, length_of, is_known_kind, valid, kind_at}
+use Rattle.paper_messages.specs.Messages.{message_at}
 use Rattle.paper_messages.specs.declared.ReaderAnswer.{ReaderAnswer}
 use Rattle.paper_streams.specs.declared.Stream.{Stream}
 use Rattle.paper_streams.specs.Streams.{number_in}

@@ -248,9 +248,9 @@ heard_back = (refl, refl, refl, refl)
 -- and in one record
 pub answered_back : answer_at move_bytes 0
     ≡ record { verdict = Done; known = true; kind = 4; length = 62; next = 66; message = move_told }
-unfolding move_bytes move_told message zeros heard_at accepted_heard read_checks first_of is_done is_known_kind valid in_ranges
-    as_admission given_of valid_given valid_statics statics_of unsigned message_at values_at spelled signed_of length_of total
-    places_of fields_of filled
+unfolding move_bytes move_told message zeros heard_at accepted_heard read_checks first_of is_done is_known_kind valid
+    in_ranges as_admission given_of valid_given valid_statics statics_of unsigned message_at values_at spelled signed_of
+    length_of total places_of fields_of filled
 answered_back = refl
 
 -- ---- the writer

@@ -85,8 +85,8 @@ pub struct Heard {
     pub message: Option<Message>,
 }
 
-// What is heard in one record: a message of a known kind, or one of an unknown kind, which the reader skips; either with
-// the kind, the length that the message gives, and the place behind it. A refusal has its verdict and zeros.
+// What is heard, in one record: a message of a known kind, or one of an unknown kind, which the reader skips; either
+// with the kind, the length that the message gives, and the place behind it. A refusal has its verdict and zeros.
 #[derive(Clone, Copy)]
 pub struct ReaderAnswer {
     pub verdict: Verdict,

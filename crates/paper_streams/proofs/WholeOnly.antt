@@ -52,7 +52,8 @@ number_none s h none = (
     fits true n = refl
     fits false n = absurd (not_true_and_false false n refl)
 
-module _ (input : List ℕ) (place : ℕ) (within : place ≤ length input) (done : (answer_at input place).verdict ≡ Done) where
+module _ (input : List ℕ) (place : ℕ) (within : place ≤ length input)
+    (done : (answer_at input place).verdict ≡ Done) where
   accepted : first_of (read_checks (drop place input)) ≡ Done
   accepted = sym (heard_verdict input place) ∙ done
 
@@ -77,7 +78,8 @@ module _ (input : List ℕ) (place : ℕ) (within : place ≤ length input) (don
   taken : take (answer_at input place).next input
       ≡ take place input ++ bytes_at input place (answer_at input place)
   taken =
-      let sizes : (answer_at input place).next ≡ place + ((answer_at input place).next - place) = omega (arith, further) in
+      let sizes : (answer_at input place).next ≡ place + ((answer_at input place).next - place) =
+      omega (arith, further) in
       ap (λ (n : ℕ). take n input) sizes ∙ take-add place ((answer_at input place).next - place) input
 
   kind_is : (answer_at input place).kind ≡ kind_at (drop place input)

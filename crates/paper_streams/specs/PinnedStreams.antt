@@ -11,7 +11,8 @@ use Rattle.paper_messages.specs.Broadcast.{sent, all_sent}
 use Rattle.paper_messages.specs.Bytes.{bytes_of, spelled, complement, signed_of}
 use Rattle.paper_messages.specs.Fields.{reasons_message_kind, session_message_kind, fields_of, filled, places_of}
 use Rattle.paper_messages.specs.Messages.{body_of, total, length_of, encode, is_known_kind, in_ranges, valid}
-use Rattle.paper_messages.specs.Messages.{values_at, message_at, read_checks, no_message, accepted_heard, heard_at, answer_at}
+use Rattle.paper_messages.specs.Messages.{values_at, message_at, read_checks, no_message, accepted_heard, heard_at}
+use Rattle.paper_messages.specs.Messages.{answer_at}
 use Rattle.paper_messages.specs.Records.{value_of, message}
 use Rattle.paper_streams.specs.Streams.{begin_message, end_message, begun, ended, whole_stream, no_stream, end_fits_of}
 use Rattle.paper_streams.specs.Streams.{number_in, stream_after, may_stand, is_whole_from, is_whole}
@@ -116,7 +117,8 @@ ends_are = (refl, refl, refl, refl, refl, refl, refl, refl)
 
 -- ---- what counts is the kind that is heard
 
--- an answer of a kind with no message, as no reader gives it of `begin` and `end`: what begins and ends a stream is the kind
+-- an answer of a kind with no message, as no reader gives it of `begin` and `end`: what begins and ends a stream is the
+-- kind
 unfoldable pub of_kind : ℕ → ReaderAnswer
 of_kind kind = record { verdict = Done; known = false; kind = kind; length = 2; next = 6; message = no_message }
 
@@ -128,5 +130,6 @@ pub kinds_heard_are : (stream_after no_stream (of_kind 6) [] ≡ come 1 0)
     × (may_stand (come 3 5) (of_kind 6) ≡ false)
     × (stands_alone 0 no_stream (of_kind 6) ≡ true)
     × (stands_alone 6 (come 3 5) (of_kind 6) ≡ false)
-unfolding of_kind number_in end_fits_of stream_after may_stand stands_alone is_done sum_of sum_on after_bytes unsigned complement
+unfolding of_kind number_in end_fits_of stream_after may_stand stands_alone is_done sum_of sum_on after_bytes unsigned
+    complement
 kinds_heard_are = (refl, refl, refl, refl, refl, refl, refl, refl)
