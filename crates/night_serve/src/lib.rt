@@ -292,13 +292,13 @@ pub fn take_word(xs: &mut [i64], a: Taken, w: Item) -> Taken
             spoilt(a)
         }
         Item::Two(ym, yn) => {
-            if pair_fits(CallKind::Evaluate, n + 1) {
+            if pair_fits(CallKind::EVALUATE, n + 1) {
                 keep(xs, n, ym);
                 keep(xs, n + 1, yn);
                 return Taken {
                     ok: true,
                     count: n + 2,
-                    pairs: with_pair(CallKind::Evaluate, n + 1, pairs),
+                    pairs: with_pair(CallKind::EVALUATE, n + 1, pairs),
                 };
             }
             spoilt(a)

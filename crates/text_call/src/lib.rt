@@ -9,7 +9,6 @@ ghost use Rattle.text_protocol.specs.Calls.{admission_of, quote_of, bits_of, flo
 ghost use Rattle.text_protocol.specs.Calls.{band_of, asked_of, notice_call, desk_call, call_asked};
 ghost use Rattle.text_call.specs.Terms.{term_at_place};
 ghost use Rattle.text_protocol.specs.Names.{evaluate_count};
-ghost use Rattle.text_protocol.specs.Kinds.{kind_number};
 
 use crate::kept::found;
 use inputs::{given_of, number_at};
@@ -194,12 +193,12 @@ fn notice_of(id: u64, side: u64, x: f64) -> AskedCall
     AskedCall::About(id, AskedAbout::Move(side))
 }
 
-// The call of the desk that a line of a kind is, with what it is given. An interest line and a bond are none, and are not
-// asked for here.
-pub fn call_of(zs: &[i64], kind: CallKind, p: Pairs, k: Kept) -> AskedCall
-    ensures { call_asked result (drop evaluate_count zs.now) ≡ desk_call k (kind_number kind) zs.now p }
+// The call of the desk that a line of a kind is, with what it is given. A withdrawal stands for all that is none: an
+// interest line and a bond, which are not asked for here, and a number that is no call's.
+pub fn call_of(zs: &[i64], kind: u64, p: Pairs, k: Kept) -> AskedCall
+    ensures { call_asked result (drop evaluate_count zs.now) ≡ desk_call k kind zs.now p }
 {
-    match kind {
+    match CallKind::of(kind).unwrap_or(CallKind::Withdraw) {
         CallKind::Admit => AskedCall::Admit(admission_of(zs)),
         CallKind::Evaluate => {
             let id = number_at(zs, evaluate_place::ID);

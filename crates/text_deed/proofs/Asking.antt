@@ -15,10 +15,6 @@ use Rattle.text_protocol.specs.declared.AskedCall.{AskedCall}
 use Rattle.text_protocol.specs.declared.Ask.{Ask}
 use Rattle.text_protocol.specs.declared.Ask.TheVariants as ask
 use Rattle.text_protocol.specs.declared.Kept.{Kept}
-use Rattle.text_protocol.specs.declared.CallKind.{CallKind}
-use Rattle.text_protocol.specs.declared.CallKind.TheVariants as kind
-use Rattle.text_protocol.specs.Kinds.{kind_number}
-use Rattle.text_protocol.proofs.KindLaws.{kind_same}
 use Rattle.text_protocol.specs.declared.Pairs.{Pairs}
 use Rattle.text_protocol.specs.Kept.{kept_after}
 use Rattle.text_protocol.specs.Names.{interest_kind, bond_kind, evaluate_names, interest_names}
@@ -26,48 +22,46 @@ use Rattle.text_protocol.specs.Names.{bond_names, evaluate_count, interest_count
 use Rattle.text_protocol.specs.Calls.{Deed, interest_of, bond_of, figures_behind, desk_call, call_of, deed_of, call_asked}
 use Rattle.text_protocol.specs.Calls.{deed_asked}
 use Rattle.text_evening.specs.Evening.{kept_by}
-use Rattle.text_line.specs.declared.Line.{Line}
-use Rattle.text_line.specs.declared.Line.TheVariants as line
-use Rattle.text_line.specs.ReadLine.{said}
+use Rattle.text_line.specs.ReadLine.{blank_kind, bad_kind, said_as}
 use Rattle.text_deed.specs.declared.Beside.{Beside}
 use Rattle.text_deed.specs.declared.LineDeed.{LineDeed}
 use Rattle.text_deed.specs.Deeds.{BesideIs, AsksFor}
 
 -- ---- the deed
 
-module _ (k : Kept) (zs : List ℤ) (l : Line) where
+module _ (k : Kept) (kind : ℕ) (zs : List ℤ) (p : Pairs) where
   -- a is what the line asks for
   abbrev IsAsked : Ask → Type 0
-  IsAsked a = deed_asked a zs ≡ deed_of k (said l zs)
+  IsAsked a = deed_asked a zs ≡ deed_of k (said_as kind zs p)
 
-  pub asks_nothing : l ≡ line.Blank → IsAsked ask.Nothing
+  pub asks_nothing : kind ≡ blank_kind → IsAsked ask.Nothing
   unfolding deed_of deed_asked
   asks_nothing e = rw e
 
-  pub asks_no_call : l ≡ line.Bad → IsAsked ask.NoCall
+  pub asks_no_call : kind ≡ bad_kind → IsAsked ask.NoCall
   unfolding deed_of deed_asked
   asks_no_call e = rw e
 
-  module _ (x : CallKind) (p : Pairs) (is : l ≡ line.Call x p) where
-    pub asks_interest : (i : Interest) → x ≡ kind.Interest → i ≡ interest_of zs → IsAsked (ask.Interest i)
-    unfolding deed_of deed_asked call_of
-    asks_interest i e f = rw (is, e, f)
+  pub asks_interest : (i : Interest) → kind ≡ interest_kind → i ≡ interest_of zs → IsAsked (ask.Interest i)
+  unfolding deed_of deed_asked call_of
+  asks_interest i e f = rw (e, f)
 
-    pub asks_bond : (b : Bond) → x ≡ kind.Bond → b ≡ bond_of k zs p → IsAsked (ask.Bond b)
-    unfolding deed_of deed_asked call_of
-    asks_bond b e f = rw (is, e, f)
+  pub asks_bond : (b : Bond) → kind ≡ bond_kind → b ≡ bond_of k zs p → IsAsked (ask.Bond b)
+  unfolding deed_of deed_asked call_of
+  asks_bond b e f = rw (e, f)
 
-    -- a line of no other kind is a call of the desk
-    pub asks_call : (c : AskedCall) → (x ≡ kind.Interest → ⊥) → (x ≡ kind.Bond → ⊥)
-        → call_asked c (drop evaluate_count zs) ≡ desk_call k (kind_number x) zs p → IsAsked (ask.Call c)
-    unfolding deed_of deed_asked call_of figures_behind evaluate_names
-    asks_call c no-interest no-bond e =
-        rw (
-          is,
-          ne_eqb (kind_number x) interest_kind (λ f. no-interest (kind_same x kind.Interest f)),
-          ne_eqb (kind_number x) bond_kind (λ f. no-bond (kind_same x kind.Bond f)),
-          e,
-        )
+  -- a line of no other kind is a call of the desk
+  pub asks_call : (c : AskedCall) → (kind ≡ blank_kind → ⊥) → (kind ≡ bad_kind → ⊥) → (kind ≡ interest_kind → ⊥)
+      → (kind ≡ bond_kind → ⊥) → call_asked c (drop evaluate_count zs) ≡ desk_call k kind zs p → IsAsked (ask.Call c)
+  unfolding deed_of deed_asked call_of figures_behind evaluate_names
+  asks_call c no-blank no-bad no-interest no-bond e =
+      rw (
+        ne_eqb kind blank_kind no-blank,
+        ne_eqb kind bad_kind no-bad,
+        ne_eqb kind interest_kind no-interest,
+        ne_eqb kind bond_kind no-bond,
+        e,
+      )
 
 -- ---- what is answered to it at once, and what is kept of it
 

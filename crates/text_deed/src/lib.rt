@@ -3,11 +3,11 @@
 // `say_call`.
 #![tactic(auto, using(text_out::specs::Appends::appending), unfolding(text_evening::specs::Evening::worded, crate::specs::Deeds::asks_why, crate::specs::Deeds::fault_shown, crate::specs::Deeds::reason_for, crate::specs::Deeds::reasons_in, crate::specs::Deeds::call_said, crate::specs::Deeds::line_text, crate::specs::Deeds::ask_count, crate::specs::Deeds::line_count))]
 
-ghost use Rattle.std.specs.Prelude.{◌≡◌, ◌++◌, ◌+◌, ◌≤◌, length};
+ghost use Rattle.std.specs.Prelude.{◌≡◌, List, ◌++◌, ◌+◌, ◌≤◌, ℤ, length};
 ghost use Rattle.text_bytes.specs.Bytes.{room};
 ghost use Rattle.text_protocol.specs.Calls.{deed_of, deed_asked};
 ghost use Rattle.text_protocol.specs.Answers.{answer_most};
-ghost use Rattle.text_line.specs.ReadLine.{said};
+ghost use Rattle.text_line.specs.ReadLine.{said_as, said};
 ghost use Rattle.text_deed.specs.Deeds.{asks_why, fault_shown, reason_said, reasons_in, call_said, line_text};
 ghost use Rattle.text_deed.specs.Deeds.{ask_count, line_count, AsksFor};
 
@@ -25,7 +25,7 @@ use text_call::{call_of, figures, interest_of};
 use text_evening::Telling;
 use text_line::Line;
 use text_out::Text;
-use text_protocol::{Ask, CallKind, Kept, Performed, Role, bond_place, interest_place};
+use text_protocol::{Ask, CallKind, Kept, Pairs, Performed, Role, bond_place, interest_place};
 
 // What the calls beside the table answer to a line, the interest side's and a bond's: only the one that the line asks
 // for counts.
@@ -45,18 +45,17 @@ pub struct LineDeed {
 
 // ---- what a line asks for
 
-// What a line with the numbers `zs` asks for, where `k` is kept of the interest lines before it.
-fn ask_of(zs: &[i64], l: Line, k: Kept) -> Ask
-    ensures { deed_asked result zs.now ≡ deed_of k (said l zs.now) }
+// What a line of a kind asks for, with the numbers `zs` and the pairs `p`, where `k` is kept of the interest lines
+// before it.
+fn ask_of(zs: &[i64], kind: u64, p: Pairs, k: Kept) -> Ask
+    ensures { deed_asked result zs.now ≡ deed_of k (said_as kind zs.now p) }
 {
-    match l {
-        Line::Blank => Ask::Nothing,
-        Line::Bad => Ask::NoCall,
-        Line::Call(kind, p) => match kind {
-            CallKind::Interest => Ask::Interest(interest_of(zs)),
-            CallKind::Bond => Ask::Bond(bond_of(k, p, zs)),
-            _ => Ask::Call(call_of(zs, kind, p, k)),
-        },
+    match kind {
+        CallKind::BLANK => Ask::Nothing,
+        CallKind::BAD => Ask::NoCall,
+        CallKind::INTEREST => Ask::Interest(interest_of(zs)),
+        CallKind::BOND => Ask::Bond(bond_of(k, p, zs)),
+        _ => Ask::Call(call_of(zs, kind, p, k)),
     }
 }
 
@@ -91,11 +90,11 @@ fn of_desk(ask: Ask, k: Kept) -> LineDeed
     }
 }
 
-// What a line asks for, and what is answered to it beside the table.
-pub fn deed_of(zs: &[i64], l: Line, k: Kept) -> LineDeed
-    ensures { AsksFor k (deed_of k (said l zs.now)) zs.now result }
+// What a line of a kind asks for, and what is answered to it beside the table.
+pub fn deed_of_kind(zs: &[i64], kind: u64, pairs: Pairs, k: Kept) -> LineDeed
+    ensures { AsksFor k (deed_of k (said_as kind zs.now pairs)) zs.now result }
 {
-    let ask = ask_of(zs, l, k);
+    let ask = ask_of(zs, kind, pairs, k);
     match ask {
         Ask::Nothing => of_desk(ask, k),
         Ask::NoCall => of_desk(ask, k),
@@ -117,6 +116,25 @@ pub fn deed_of(zs: &[i64], l: Line, k: Kept) -> LineDeed
             }
         }
     }
+}
+
+// A line's kind, and its pairs.
+fn kind_and_pairs(l: Line) -> (u64, Pairs)
+    ensures { (zs : List ℤ) → said_as result.0 zs result.1 ≡ said l zs }
+{
+    match l {
+        Line::Blank => (CallKind::BLANK, Pairs::default()),
+        Line::Bad => (CallKind::BAD, Pairs::default()),
+        Line::Call(kind, pairs) => (kind.number(), pairs),
+    }
+}
+
+// What a line asks for, and what is answered to it beside the table.
+pub fn deed_of(zs: &[i64], l: Line, k: Kept) -> LineDeed
+    ensures { AsksFor k (deed_of k (said l zs.now)) zs.now result }
+{
+    let (kind, pairs) = kind_and_pairs(l);
+    deed_of_kind(zs, kind, pairs, k)
 }
 
 // ---- what a line is told as

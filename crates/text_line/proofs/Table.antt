@@ -12,12 +12,10 @@ use Rattle.paper.specs.Lists.{pick}
 use Rattle.text_bytes.specs.Bytes.{same}
 use Rattle.text_word.proofs.Words.{same_is}
 use Rattle.text_protocol.specs.declared.CallKind.{CallKind}
-use Rattle.text_protocol.specs.declared.CallKind.TheVariants as kind
 use Rattle.text_line.specs.declared.TheConstants.{CALLS}
 use Rattle.text_protocol.specs.Names.{Form, forms, bond_kind, place_of, code}
 use Rattle.text_protocol.specs.Names.{kind_from, kind_of, evaluate_names, bond_names}
 use Rattle.text_protocol.specs.Kinds.{kind_number, kind_or_none}
-use Rattle.text_protocol.proofs.KindLaws.{kind_same}
 use Rattle.text_protocol.specs.Line.{place_in}
 use Rattle.text_line.specs.ReadLine.{word_of, LowsAt}
 
@@ -61,6 +59,3 @@ unfolding place_in place_of evaluate_names code
 lows_of_another k n =
     let e = ne_eqb k bond_kind n in
     record { first = rw e; second = rw e; third = rw e; small = omega arith }
-
-pub lows_of_no_bond : (k : CallKind) → (k ≡ kind.Bond → ⊥) → LowsAt (kind_number k) 5
-lows_of_no_bond k n = lows_of_another (kind_number k) (λ e. n (kind_same k kind.Bond e))

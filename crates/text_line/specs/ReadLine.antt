@@ -1,5 +1,6 @@
 -- What the code's answer and the lent numbers say of a line.
-use Rattle.std.specs.Prelude.{◌≡◌, List, ℕ, ◌+◌, ◌*◌, ◌≤◌, ℤ, Option, None, Some}
+use Rattle.std.specs.Prelude.{◌≡◌, List, ℕ, ◌+◌, ◌*◌, ◌≤◌, eqb, ℤ, Option, None, Some}
+use Rattle.paper.specs.Lists.{pick}
 use Rattle.text_protocol.specs.declared.Pairs.{Pairs}
 use Rattle.text_protocol.specs.declared.CallKind.{CallKind}
 use Rattle.text_protocol.specs.declared.CallKind.TheVariants as kind
@@ -23,6 +24,17 @@ word_of kind.Notice = notice_word
 word_of kind.Withdraw = withdraw_word
 word_of kind.Interest = interest_word
 word_of kind.Bond = bond_word
+
+-- behind the kinds of the calls, that of a line that says nothing, and that of one that is no call
+abbrev pub blank_kind : ℕ
+blank_kind = 100
+
+abbrev pub bad_kind : ℕ
+bad_kind = 101
+
+-- what a line of a kind says, with its numbers and pairs
+abbrev pub said_as : (kind : ℕ) → (numbers : List ℤ) → Pairs → Said
+said_as k zs p = pick (eqb k blank_kind) Nothing (pick (eqb k bad_kind) NoCall (Call k zs p))
 
 -- what a line says, with its numbers
 abbrev pub said : Line → (numbers : List ℤ) → Said

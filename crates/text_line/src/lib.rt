@@ -103,19 +103,20 @@ fn takes(kind: CallKind, count: usize) -> bool
 
 // The calls with three terms, an evaluation and a bond.
 #[tactic(auto, unfolding(text_protocol::specs::Line::has_terms))]
-fn has_terms(kind: CallKind) -> bool
-    ensures { result ≡ has_terms (kind_number kind) }
+fn has_terms(kind: u64) -> bool
+    ensures { result ≡ has_terms kind }
 {
-    matches!(kind, CallKind::Evaluate | CallKind::Bond)
+    (kind == CallKind::EVALUATE) | (kind == CallKind::BOND)
 }
 
 // Where the first term's RRCL stands in a call with terms. Those of the other two follow a term's numbers apart.
-fn first_low(kind: CallKind) -> usize
-    ensures { LowsAt (kind_number kind) result }
+fn first_low(kind: u64) -> usize
+    ensures { LowsAt kind result }
 {
-    match kind {
-        CallKind::Bond => bond_place::RRCL0,
-        _ => evaluate_place::RRCL0,
+    if kind == CallKind::BOND {
+        bond_place::RRCL0
+    } else {
+        evaluate_place::RRCL0
     }
 }
 
@@ -123,15 +124,15 @@ fn first_low(kind: CallKind) -> usize
 const TERM_NUMBERS: usize = 3;
 
 // A pair stands in a call with terms alone, in place of a term's RRCL RRCH.
-pub fn pair_fits(kind: CallKind, n: usize) -> bool
-    ensures { result ≡ pair_fits (kind_number kind) n }
+pub fn pair_fits(kind: u64, n: usize) -> bool
+    ensures { result ≡ pair_fits kind n }
 {
     let low = first_low(kind);
     has_terms(kind) & ((n == low) | ((n == low + TERM_NUMBERS) | (n == low + 2 * TERM_NUMBERS)))
 }
 
-pub fn with_pair(kind: CallKind, n: usize, p: Pairs) -> Pairs
-    ensures { result ≡ with_pair (kind_number kind) n p }
+pub fn with_pair(kind: u64, n: usize, p: Pairs) -> Pairs
+    ensures { result ≡ with_pair kind n p }
 {
     let low = first_low(kind);
     Pairs {
@@ -153,12 +154,12 @@ fn take_word(xs: &mut Numbers, kind: CallKind, pairs: Pairs, w: Item) -> Option<
         }
         Item::Two(ym, yn) => {
             let n = xs.count();
-            if !pair_fits(kind, n) {
+            if !pair_fits(kind.number(), n) {
                 return None;
             }
             xs.keep(ym);
             xs.keep(yn);
-            Some(with_pair(kind, n, pairs))
+            Some(with_pair(kind.number(), n, pairs))
         }
         Item::Neither => None,
     }

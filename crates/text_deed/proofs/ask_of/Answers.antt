@@ -1,19 +1,21 @@
 -- `text_deed::ask_of` meets its contract: the deed of each kind of line.
+use native.Mathlib.Omega.{arith}
 use Rattle.text_deed.proofs.Asking.{asks_nothing, asks_no_call, asks_call, asks_interest, asks_bond}
 use Rattle.text_deed.proofs.ask_of.Goals as goal
 
-pub returns-in-Blank : goal.returns-in-Blank
-returns-in-Blank c = asks_nothing _ _ _ c.in-Blank.is
+pub returns-in-100 : goal.returns-in-100
+returns-in-100 c = asks_nothing _ _ _ _ c.in-100.is
 
-pub returns-in-Bad : goal.returns-in-Bad
-returns-in-Bad c = asks_no_call _ _ _ c.in-Bad.is
+pub returns-in-101 : goal.returns-in-101
+returns-in-101 c = asks_no_call _ _ _ _ c.in-101.is
 
-pub returns-in-Interest : goal.returns-in-Interest
-returns-in-Interest c = asks_interest _ _ _ _ _ c.in-Call.is _ c.in-Interest.is c.interest_of.ensures
+pub returns-in-10 : goal.returns-in-10
+returns-in-10 c = asks_interest _ _ _ _ _ c.in-10.is c.interest_of.ensures
 
-pub returns-in-Bond : goal.returns-in-Bond
-returns-in-Bond c = asks_bond _ _ _ _ _ c.in-Call.is _ c.in-Bond.is c.bond_of.ensures
+pub returns-in-11 : goal.returns-in-11
+returns-in-11 c = asks_bond _ _ _ _ _ c.in-11.is c.bond_of.ensures
 
 pub returns-in_default : goal.returns-in_default
 returns-in_default c =
-    asks_call _ _ _ _ _ c.in-Call.is _ c.in_default.not-Interest c.in_default.not-Bond c.call_of.ensures
+    asks_call _ _ _ _ _ (λ e. omega (arith, e)) (λ e. omega (arith, e)) (λ e. omega (arith, e)) (λ e. omega (arith, e))
+    c.call_of.ensures

@@ -1,6 +1,6 @@
--- `text_deed::deed_of` meets its contract: what is answered at once, by what is asked for.
+-- `text_deed::deed_of_kind` meets its contract: what is answered at once, by what is asked for.
 use Rattle.text_deed.proofs.Asking.{nothing_asked, no_call_asked, call_asked_lem, interest_asked, bond_asked}
-use Rattle.text_deed.proofs.deed_of.Goals as goal
+use Rattle.text_deed.proofs.deed_of_kind.Goals as goal
 
 pub returns-in-Nothing : goal.returns-in-Nothing
 returns-in-Nothing c =
