@@ -55,15 +55,33 @@ returns-in-Admit c = rw (of_kind _ _ _ _ c.of.ensures _ c.unwrap_or.ensures, c.i
 
 pub returns-in-Evaluate : goal.returns-in-Evaluate
 unfolding desk_call call_asked ask_of figures_behind the place_of code forms
-returns-in-Evaluate c = rw (of_kind _ _ _ _ c.of.ensures _ c.unwrap_or.ensures, c.in-Evaluate.is, c.number_at-id.ensures, c.asked_of.ensures)
+returns-in-Evaluate c =
+    rw (
+      of_kind _ _ _ _ c.of.ensures _ c.unwrap_or.ensures,
+      c.in-Evaluate.is,
+      c.number_at-id.ensures,
+      c.asked_of.ensures,
+    )
 
 pub returns-in-Quote : goal.returns-in-Quote
 unfolding desk_call call_asked ask_of figures_behind the place_of code forms
-returns-in-Quote c = rw (of_kind _ _ _ _ c.of.ensures _ c.unwrap_or.ensures, c.in-Quote.is, c.number_at-id-in-Quote.ensures, c.quote_of.ensures)
+returns-in-Quote c =
+    rw (
+      of_kind _ _ _ _ c.of.ensures _ c.unwrap_or.ensures,
+      c.in-Quote.is,
+      c.number_at-id-in-Quote.ensures,
+      c.quote_of.ensures,
+    )
 
 pub returns-in-Move : goal.returns-in-Move
 unfolding desk_call call_asked ask_of figures_behind the place_of code forms
-returns-in-Move c = rw (of_kind _ _ _ _ c.of.ensures _ c.unwrap_or.ensures, c.in-Move.is, c.number_at-id-in-Move.ensures, c.number_at.ensures)
+returns-in-Move c =
+    rw (
+      of_kind _ _ _ _ c.of.ensures _ c.unwrap_or.ensures,
+      c.in-Move.is,
+      c.number_at-id-in-Move.ensures,
+      c.number_at.ensures,
+    )
 
 pub returns-in-Read : goal.returns-in-Read
 unfolding desk_call call_asked ask_of figures_behind the place_of code forms
@@ -75,7 +93,13 @@ returns-in-Open c = rw (of_kind _ _ _ _ c.of.ensures _ c.unwrap_or.ensures, c.in
 
 pub returns-in-Outside : goal.returns-in-Outside
 unfolding desk_call call_asked ask_of figures_behind the place_of code forms
-returns-in-Outside c = rw (of_kind _ _ _ _ c.of.ensures _ c.unwrap_or.ensures, c.in-Outside.is, c.number_at-id-in-Outside.ensures, c.outside_of.ensures)
+returns-in-Outside c =
+    rw (
+      of_kind _ _ _ _ c.of.ensures _ c.unwrap_or.ensures,
+      c.in-Outside.is,
+      c.number_at-id-in-Outside.ensures,
+      c.outside_of.ensures,
+    )
 
 pub returns-in-Notice : goal.returns-in-Notice
 unfolding desk_call the place_of code forms
