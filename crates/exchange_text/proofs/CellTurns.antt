@@ -1,33 +1,32 @@
 -- What each function needs, on plain values: one turn of a loop, and each way that a function ends.
 use mathlib.Core.Path.{◌≡◌, refl, sym, ap, ◌∙◌}
-use mathlib.Core.Bool.{Bool, true, false, not, ◌&&◌, and-true, and-false}
+use mathlib.Core.Bool.{Bool, true, false, ◌&&◌, and-false}
 use mathlib.Core.List.{List, [], ◌∷◌}
 use mathlib.Core.Logic.{◌⊎◌, inl, inr}
-use Prim.Native.Nat.{ℕ, zero, suc, min, ◌+◌, ◌-◌, ◌*◌, ◌^◌, ◌≤◌, ◌<◌}
+use Prim.Native.Nat.{ℕ, zero, suc, ◌+◌, ◌-◌, ◌*◌, ◌^◌, ◌≤◌, ◌<◌}
 use native.Mathlib.Nat.{mul-le-mul}
 use native.Mathlib.Omega.{arith}
-use lib.Dec.{leb, ltb, eqb}
+use lib.Dec.{leb, eqb}
 use lib.IntN.{pos, neg_ℤ, ◌-ℤ◌, +ℤ_idl}
-use lib.ListN.{length, take, drop, get_or, length-take, length-drop, drop_of_length-le}
-use lib.Seq.{drop-cons, take_all}
+use lib.ListN.{length, take, drop, length-drop}
+use lib.Seq.{take_all}
 use mir.Syntax.{w64}
 use mir.Val.{Fits, SFits, to_z, of_z}
 use mir.ValLaws.{to_z_pos}
 use mir.Facts.{to_z-of_z}
-use borrow.Author.Tests.{le-leb, lt-leb, lt-ltb, le-ltb, eq-eqb, ne_eqb, eqb-true}
+use borrow.Author.Tests.{le-leb, lt-leb, lt-ltb, le-ltb, ne_eqb}
 use Rattle.std.specs.Char.{is_ascii_digit}
 use Rattle.std.specs.List.{prefix_len}
-use Rattle.std.proofs.lemmas.List.{get_or-take}
 use Rattle.paper.specs.Lists.{pick}
-use Rattle.paper.proofs.Logic.{and_left, and_right, le_or_lt}
-use Rattle.text_bytes.specs.Bytes.{minus_sign, digit_zero, digit_nine}
+use Rattle.paper.proofs.Logic.{and_right}
+use Rattle.text_bytes.specs.Bytes.{minus_sign, digit_zero}
 use Rattle.text_bytes.specs.Numbers.{is_digit}
 use Rattle.text_bytes.specs.Spells.{negated}
 use Rattle.text_bytes.proofs.Spelling.{impossible, within_is_digit}
 use Rattle.exchange_protocol.specs.declared.Column.{Column}
 use Rattle.exchange_protocol.specs.Exchange.{point}
 use Rattle.exchange_protocol.specs.Scan.{Front, front, none, starts, number_most, digits, past_zeros, behind_zeros}
-use Rattle.exchange_protocol.specs.Scan.{decimals, behind_whole, number, positive, turned, cell, Passed, passed, pass}
+use Rattle.exchange_protocol.specs.Scan.{decimals, behind_whole, number, positive, turned, cell, passed, pass}
 
 -- what stands from a place on
 pub rest_is : (t : List ℕ) (i : ℕ) → take (length t - i) (drop i t) ≡ drop i t
@@ -60,63 +59,55 @@ unfolding is_digit
 digit_test b = refl
 
 -- what is left to read, behind the digits of n, leads to the same number and the same text behind it
-pub record Counting (t : List ℕ) (most whole i n : ℕ) : Type 0 where
+pub record Counting (t : List ℕ) (most whole left n : ℕ) (rest : List ℕ) : Type 0 where
   pub small : n ≤ number_most
-  pub rest : digits (most - i) n (drop i t) ≡ digits most whole t
+  pub few : left ≤ most
+  pub long : length rest + most ≡ length t + left
+  pub leads : digits left n rest ≡ digits most whole t
 
-pub counting_none : (t : List ℕ) (most whole : ℕ) → whole ≤ number_most → Counting t most whole 0 whole
-counting_none t most whole h = let e : most - 0 ≡ most = omega arith in record { small = h; rest = rw e }
+pub counting_none : (t : List ℕ) (most whole : ℕ) → whole ≤ number_most → Counting t most whole most whole t
+counting_none t most whole h = record { small = h; few = omega arith; long = refl; leads = refl }
 
-digits_of_none : (m n : ℕ) → digits m n [] ≡ front n []
-unfolding digits
-digits_of_none zero n = refl
-digits_of_none (suc m) n = refl
+module _ (t : List ℕ) (most whole left n : ℕ) (rest : List ℕ) (c : Counting t most whole left n rest) where
+  pub counting_all : left ≡ 0 → front n rest ≡ digits most whole t
+  unfolding digits
+  counting_all h = rw h at c.leads
 
-module _ (t : List ℕ) (most whole stop : ℕ) (s : stop ≡ min most (length t)) (i n : ℕ) (c : Counting t most whole i n)
-  where
-    pub counting_all : length (take stop t) ≤ i → i ≤ length (take stop t)
-        → front n (take (length t - stop) (drop stop t)) ≡ digits most whole t
+  pub counting_stops : starts is_digit rest ≡ false → front n rest ≡ digits most whole t
+  unfolding digits starts
+  counting_stops d = go left rest d ∙ c.leads
+    where
+      go : (m : ℕ) (u : List ℕ) → starts is_digit u ≡ false → front n u ≡ digits m n u
+      go zero u e = refl
+      go (suc m) [] e = refl
+      go (suc m) (b ∷ u) e = rw e
+
+  module _ (h : 0 < left) (d : ℕ) (behind : List ℕ) (there : (rest ≡ (digit_zero + d) ∷ behind) × (d ≤ 9)) where
+    opened : pick (leb (10 * n + d) number_most) (digits (left - 1) (10 * n + d) behind) none ≡ digits most whole t
     unfolding digits
-    counting_all h k = rw (rest_is t stop) (go (le_or_lt most (length t)))
+    opened =
+        let less : left ≡ suc (left - 1) = omega arith in
+        let e : is_digit (digit_zero + d) ≡ true =
+        within_is_digit (digit_zero + d) (omega arith) (omega (arith, there.1)) in
+        let f : 10 * n + (digit_zero + d - digit_zero) ≡ 10 * n + d = omega arith in
+        go (left - 1) less e f
       where
-        at_stop : i ≡ stop
-        at_stop = omega (arith, length-take stop t, s)
+        go : (m : ℕ) → left ≡ suc m → is_digit (digit_zero + d) ≡ true
+            → 10 * n + (digit_zero + d - digit_zero) ≡ 10 * n + d
+            → pick (leb (10 * n + d) number_most) (digits m (10 * n + d) behind) none ≡ digits most whole t
+        go m less e f = rw (e, f) at (rw (less, there.0) at c.leads)
 
-        go : (most ≤ length t) ⊎ (length t < most) → front n (drop stop t) ≡ digits most whole t
-        go (inl l) = let z : most - i ≡ 0 = omega (arith, at_stop, s) in rw (← at_stop) (rw z at c.rest)
-        go (inr l) =
-            let d : drop i t ≡ [] = drop_of_length-le t (omega (arith, at_stop, s)) in
-            rw (← at_stop, d) (sym (digits_of_none (most - i) n) ∙ (rw d at c.rest))
+    pub counting_over : number_most < 10 * n + d → none ≡ digits most whole t
+    counting_over k = rw (lt-leb (10 * n + d) number_most k) at opened
 
-    module _ (h : i < length (take stop t)) (b : ℕ) (e : b ≡ get_or (take stop t) i 0) where
-      byte : b ≡ get_or t i 0
-      byte = e ∙ get_or-take stop t i 0 (omega (arith, length-take stop t))
-
-      opened : pick (is_digit b)
-          (pick (leb (10 * n + (b - digit_zero)) number_most)
-          (digits (most - (i + 1)) (10 * n + (b - digit_zero)) (drop (suc i) t)) none) (front n (drop i t))
-          ≡ digits most whole t
-      unfolding digits
-      opened =
-          let l : i < length t = omega (arith, length-take stop t) in
-          let less : most - i ≡ suc (most - (i + 1)) = omega (arith, length-take stop t, s) in
-          rw (drop-cons t i 0 l, byte) (rw (less, drop-cons t i 0 l) at c.rest)
-
-      pub counting_stops : is_digit b ≡ false → front n (take (length t - i) (drop i t)) ≡ digits most whole t
-      counting_stops d = rw (rest_is t i) (rw d at opened)
-
-      module _ (d : is_digit b ≡ true) where
-        pub counting_over : number_most < 10 * n + (b - digit_zero) → none ≡ digits most whole t
-        counting_over k = rw (d, lt-leb (10 * n + (b - digit_zero)) number_most k) at opened
-
-        pub counting_more : 10 * n + (b - digit_zero) ≤ number_most
-            → Counting t most whole (i + 1) (10 * n + (b - digit_zero))
-        counting_more k =
-            let f : suc i ≡ i + 1 = omega arith in
-            record {
-              small = k;
-              rest = rw f at (rw (d, le-leb (10 * n + (b - digit_zero)) number_most k) at opened);
-            }
+    pub counting_more : 10 * n + d ≤ number_most → Counting t most whole (left - 1) (10 * n + d) behind
+    counting_more k =
+        record {
+          small = k;
+          few = omega (arith, c.few);
+          long = omega (arith, c.long, ap length there.0);
+          leads = rw (le-leb (10 * n + d) number_most k) at opened;
+        }
 
 -- ---- zeros
 
@@ -219,6 +210,16 @@ module _ (v : ℕ) (h : v ≤ 10000 * number_most) where
   pub turned_code : to_z w64 (of_z w64 (pos 0 -ℤ to_z w64 v)) ≡ pos 0 -ℤ pos v
   turned_code = rw plain_code (to_z-of_z {w = w64} {z = pos 0 -ℤ pos v} turned_fits)
 
+-- a digit in front is no minus
+pub no_minus : (c : Column) (t : List ℕ) (first : ℕ) (behind : List ℕ)
+    → (t ≡ (digit_zero + first) ∷ behind) × (first ≤ 9)
+    → t ≡ pick (c.minus && starts (λ b. eqb b minus_sign) t) (drop 1 t) t
+unfolding starts
+no_minus c t first behind there =
+    let e : eqb (digit_zero + first) minus_sign ≡ false = ne_eqb (digit_zero + first) minus_sign (λ e. omega arith) in
+    let f : starts (λ b. eqb b minus_sign) t ≡ false = rw there.0 e in
+    rw (f, and-false c.minus)
+
 -- which way a field is read
 module _ (t : List ℕ) (c : Column) (start : List ℕ) where
   abbrev minus : Bool
@@ -240,6 +241,15 @@ module _ (t : List ℕ) (c : Column) (start : List ℕ) where
             let q : start ≡ drop 1 t = rw e at is in
             inl (e, q, rw q (some t (and_right c.minus (starts (λ b. eqb b minus_sign) t) e)))
         go false e = inr (e, rw e at is)
+
+    -- nothing is passed
+    pub plain_is : length t ≤ length start → start ≡ t
+    plain_is h = go behind_minus
+      where
+        go : ((minus ≡ true) × (start ≡ drop 1 t) × (length start < length t)) ⊎ ((minus ≡ false) × (start ≡ t))
+            → start ≡ t
+        go (inl (m, e, l)) = absurd (omega arith)
+        go (inr (m, e)) = e
 
     module _ (first : ℕ) (behind : List ℕ) (there : (start ≡ (digit_zero + first) ∷ behind) × (first ≤ 9)) where
       digit : starts is_digit start ≡ true

@@ -11,3 +11,8 @@ front_of None = none
 abbrev pub passed_of : Option (Bor (List ℕ)) → Front Passed
 passed_of (Some rest) = front passed rest.now
 passed_of None = none
+
+-- the numbers of a line, which stand apart
+abbrev pub front_with : {A : Type 0} → A → Option (Bor (List ℕ)) → Front A
+front_with x (Some rest) = front x rest.now
+front_with x None = none

@@ -46,18 +46,21 @@ fn digits(text: &[u8], most: usize, whole: u64) -> Option<(u64, &[u8])>
     ensures small { IfSome result (λ p. p.0 ≤ number_most) }
     ensures few { IfSome result (λ p. (length p.1.now ≤ length text.now) × (length text.now ≤ length p.1.now + most)) }
 {
-    let stop = most.min(text.len());
     let mut n = whole;
-    for (i, b) in text[..stop].iter().enumerate() {
-        if !b.is_ascii_digit() {
-            return Some((n, &text[i..]));
-        }
-        n = 10 * n + u64::from(*b - b'0');
+    let mut rest = text;
+    let mut left = most;
+    while left != 0 {
+        let Some((digit, behind)) = first_digit(rest) else {
+            return Some((n, rest));
+        };
+        n = 10 * n + digit;
         if NUMBER_MOST < n {
             return None;
         }
+        rest = behind;
+        left -= 1;
     }
-    Some((n, &text[stop..]))
+    Some((n, rest))
 }
 
 // How many zeros stand in front.
@@ -110,7 +113,9 @@ fn decimals(text: &[u8], column: Column, whole: u64) -> Option<(u64, &[u8])>
     ))
 }
 
-// A decimal of the column, in its unit, behind its first digit.
+// A decimal of the column, in its unit, behind its first digit. Two places read one, so the compiler is told to write
+// it into both.
+#[inline(always)]
 fn number(text: &[u8], column: Column, first: u64) -> Option<(u64, &[u8])>
     requires { (first ≤ 9) × (column.places ≤ 4) }
     ensures reads { front_of result ≡ number column ((digit_zero + first) ∷ text.now) }
@@ -140,20 +145,17 @@ pub fn read_cell(text: &[u8], column: Column) -> Option<(i64, &[u8])>
     requires { column.places ≤ 4 }
     ensures { front_of result ≡ cell column text.now }
 {
-    let plain = behind_minus(text, column);
-    if let Some((first, behind)) = first_digit(plain) {
+    if let Some((first, behind)) = first_digit(text) {
         let (number, rest) = number(behind, column, first)?;
-        let size = number as i64;
-        return Some((
-            if plain.len() < text.len() {
-                -size
-            } else {
-                size
-            },
-            rest,
-        ));
+        return Some((number as i64, rest));
     }
-    if column.empty && plain.len() == text.len() {
+    let plain = behind_minus(text, column);
+    if plain.len() < text.len() {
+        let (first, behind) = first_digit(plain)?;
+        let (number, rest) = number(behind, column, first)?;
+        return Some((-(number as i64), rest));
+    }
+    if column.empty {
         return Some((0, text));
     }
     None

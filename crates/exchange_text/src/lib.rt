@@ -8,7 +8,7 @@ pub mod row; // a line
 ghost use Rattle.std.specs.Prelude.{◌≡◌, length};
 ghost use Rattle.exchange_protocol.specs.Exchange.{refused, Says};
 
-use crate::row::{put_row, read_line};
+use crate::row::{FIELDS, put_row, read_line};
 use exchange_protocol::Reading;
 use paper::{Row, Verdict};
 
@@ -39,14 +39,14 @@ pub fn read_exchange(t: &[u8], id: u64) -> Reading
         return refused(0);
     }
     let mut rows = [0; Row::ALL_NUMBERS_MOST];
+    let mut line = [0; FIELDS];
     let mut rest = t;
     let mut number = 1;
     let mut count = 0;
     while !rest.is_empty() {
-        let Some(found) = read_line(rest) else {
+        let Some(behind) = read_line(rest, &mut line) else {
             return refused(number);
         };
-        let (line, behind) = found;
         if exact::unsigned_at(&line, 0) == id {
             if ROWS_MOST <= count {
                 return refused(number);

@@ -4,7 +4,7 @@ ghost use Rattle.std.proofs.lemmas.List.Edits.{sets};
 ghost use Rattle.paper.specs.Numbers.{row_numbers};
 ghost use Rattle.exchange_protocol.specs.Exchange.{columns, line_numbers};
 ghost use Rattle.exchange_protocol.specs.Scan.{line_end, field_end, cells, in_range, line};
-ghost use Rattle.exchange_text.specs.Fronts.{front_of, passed_of};
+ghost use Rattle.exchange_text.specs.Fronts.{passed_of, front_with};
 
 use crate::cell::{pass, read_cell};
 use exchange_protocol::Column;
@@ -79,18 +79,17 @@ const COLUMNS: [Column; FIELDS] = [
     WHOLE_NUMBER,
 ];
 
-// The eight fields, each with what stands behind it.
-fn fields(text: &[u8]) -> Option<([i64; FIELDS], &[u8])>
-    ensures { front_of result ≡ cells columns [] text.now }
+// The eight fields, each with what stands behind it; their numbers go to `numbers`.
+fn fields<'a>(text: &'a [u8], numbers: &mut [i64; FIELDS]) -> Option<&'a [u8]>
+    ensures { front_with numbers.new result ≡ cells columns [] text.now }
 {
-    let mut numbers = [0; FIELDS];
     let mut rest = text;
     for (k, column) in COLUMNS.iter().enumerate() {
         let (number, behind) = read_cell(rest, *column)?;
         rest = field_end(behind, k)?;
         numbers[k] = number;
     }
-    Some((numbers, rest))
+    Some(rest)
 }
 
 // Document 01's ranges, of the eight numbers.
@@ -102,14 +101,14 @@ fn in_range(numbers: &[i64]) -> bool
     exact::within_at(numbers, 0, 1, ID_MOST) & rows::row_valid(numbers, 1)
 }
 
-// The line in front, with what ends it.
+// The line in front, with what ends it; its eight numbers go to `numbers`.
 #[tactic(auto, unfolding(exchange_protocol::specs::Scan::line))]
-pub fn read_line(text: &[u8]) -> Option<([i64; FIELDS], &[u8])>
-    ensures { front_of result ≡ line text.now }
+pub fn read_line<'a>(text: &'a [u8], numbers: &mut [i64; FIELDS]) -> Option<&'a [u8]>
+    ensures { front_with numbers.new result ≡ line text.now }
 {
-    let (numbers, rest) = fields(text)?;
-    if in_range(&numbers) {
-        return Some((numbers, rest));
+    let rest = fields(text, numbers)?;
+    if in_range(numbers) {
+        return Some(rest);
     }
     None
 }

@@ -137,14 +137,14 @@ pub fn read_night(t: &[u8], securities: &mut Securities) -> Result<(), u64>
         return Err(0);
     }
     securities.count = 0;
+    let mut line = [0; FIELDS];
     let mut rest = t;
     let mut number: u64 = 1;
     let mut last = 0;
     while !rest.is_empty() {
-        let Some(found) = read_line(rest) else {
+        let Some(behind) = read_line(rest, &mut line) else {
             return Err(number);
         };
-        let (line, behind) = found;
         let Some(at) = securities.enter(&line, last) else {
             return Err(number);
         };

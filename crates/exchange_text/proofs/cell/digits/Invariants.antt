@@ -3,5 +3,8 @@
 use Rattle.exchange_text.proofs.CellTurns.{Counting}
 use Rattle.exchange_text.proofs.cell.digits.Given as goal
 
-abbrev pub invariant-loop-i : goal.invariant-loop-i
-invariant-loop-i l = Counting l.text l.most l.whole l.i l.n
+abbrev pub invariant-loop-left : goal.invariant-loop-left
+invariant-loop-left l = Counting l.text l.most l.whole l.left l.n l.rest
+
+abbrev pub decreases-loop-left : goal.decreases-loop-left
+decreases-loop-left l = l.left
