@@ -17,11 +17,13 @@ fn first_told(rt: HostRuntime) -> Option<u64> {
     if count <= 1 {
         return Some(1);
     }
-    let option: Word<OPTION_ROOM> = Word::at(rt, 1);
+    let mut option: Word<OPTION_ROOM> = Word::none();
+    option.read(rt, 1);
     if count != 3 || !same_bytes(option.as_slice(), b"--from") {
         return None;
     }
-    let number: Word<WORD_ROOM> = Word::at(rt, 2);
+    let mut number: Word<WORD_ROOM> = Word::none();
+    number.read(rt, 2);
     match text_word::item_of(number.as_slice()) {
         Item::One(n) if 1 <= n => Some(exact::unsigned(n)),
         _ => None,

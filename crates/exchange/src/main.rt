@@ -26,7 +26,8 @@ fn asked(rt: HostRuntime) -> Option<u64>
     if text_evidence::arg_count(rt) != 2 {
         return None;
     }
-    let word: Word<WORD_ROOM> = Word::at(rt, 1);
+    let mut word: Word<WORD_ROOM> = Word::none();
+    word.read(rt, 1);
     exchange_serve::id_of(word.as_slice())
 }
 

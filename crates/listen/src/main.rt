@@ -22,7 +22,8 @@ fn asked(rt: HostRuntime) -> Listens {
     if count < 2 {
         return Listens::Lines;
     }
-    let word: Word<WORD_ROOM> = Word::at(rt, 1);
+    let mut word: Word<WORD_ROOM> = Word::none();
+    word.read(rt, 1);
     if count == 2 && same_bytes(word.as_slice(), b"--whole") {
         return Listens::Whole;
     }

@@ -40,7 +40,8 @@ fn say_usage(rt: HostRuntime) {
 fn word_at(rt: HostRuntime, i: usize) -> Item
     ensures { OfWord result }
 {
-    let word: Word<WORD_ROOM> = Word::at(rt, i);
+    let mut word: Word<WORD_ROOM> = Word::none();
+    word.read(rt, i);
     text_word::item_of(word.as_slice())
 }
 

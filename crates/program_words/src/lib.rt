@@ -27,19 +27,24 @@ impl<const ROOM: usize> Model for Word<ROOM> {
 }
 
 impl<const ROOM: usize> Word<ROOM> {
-    ghost use Rattle.std.specs.Prelude.{◌≡◌, ◌≤◌, length};
+    ghost use Rattle.std.specs.Prelude.{◌≡◌, ◌≤◌, [], length};
 
-    // The i-th word, the program's name at 0; empty where there is no such word, or no room for it. It is written where
-    // it stands: a copy of so much room takes as long as all else that is done here.
-    pub fn at(rt: HostRuntime, i: usize) -> Word<ROOM>
-        ensures { length result ≤ ROOM }
+    // Before a word is read.
+    pub fn none() -> Word<ROOM>
+        ensures { result ≡ [] }
     {
-        let mut word = Word {
+        Word {
             bytes: [0; ROOM],
             length: 0,
-        };
-        word.length = arg(rt, i, &mut word.bytes);
-        word
+        }
+    }
+
+    // The i-th word, the program's name at 0; empty where there is no such word, or no room for it. It is read where it
+    // stands: to hand out so much room by value would copy it.
+    pub fn read(&mut self, rt: HostRuntime, i: usize)
+        ensures { length self.new ≤ ROOM }
+    {
+        self.length = arg(rt, i, &mut self.bytes);
     }
 
     pub fn as_slice(&self) -> &[u8]
