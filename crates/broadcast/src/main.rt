@@ -18,12 +18,12 @@ fn first_told(rt: HostRuntime) -> Option<u64> {
         return Some(1);
     }
     let mut option: Word<OPTION_ROOM> = Word::none();
-    option.read(rt, 1);
+    option.take(rt, 1);
     if count != 3 || !same_bytes(option.as_slice(), b"--from") {
         return None;
     }
     let mut number: Word<WORD_ROOM> = Word::none();
-    number.read(rt, 2);
+    number.take(rt, 2);
     match text_word::item_of(number.as_slice()) {
         Item::One(n) if 1 <= n => Some(exact::unsigned(n)),
         _ => None,

@@ -27,7 +27,7 @@ fn asked(rt: HostRuntime) -> Option<u64>
         return None;
     }
     let mut word: Word<WORD_ROOM> = Word::none();
-    word.read(rt, 1);
+    word.take(rt, 1);
     exchange_serve::id_of(word.as_slice())
 }
 

@@ -23,7 +23,7 @@ fn asked(rt: HostRuntime) -> Listens {
         return Listens::Lines;
     }
     let mut word: Word<WORD_ROOM> = Word::none();
-    word.read(rt, 1);
+    word.take(rt, 1);
     if count == 2 && same_bytes(word.as_slice(), b"--whole") {
         return Listens::Whole;
     }

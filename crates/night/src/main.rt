@@ -41,7 +41,7 @@ fn word_at(rt: HostRuntime, i: usize) -> Item
     ensures { OfWord result }
 {
     let mut word: Word<WORD_ROOM> = Word::none();
-    word.read(rt, i);
+    word.take(rt, i);
     text_word::item_of(word.as_slice())
 }
 

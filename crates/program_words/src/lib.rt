@@ -29,7 +29,7 @@ impl<const ROOM: usize> Model for Word<ROOM> {
 impl<const ROOM: usize> Word<ROOM> {
     ghost use Rattle.std.specs.Prelude.{◌≡◌, ◌≤◌, [], length};
 
-    // Before a word is read.
+    // Before a word is taken.
     pub fn none() -> Word<ROOM>
         ensures { result ≡ [] }
     {
@@ -39,9 +39,9 @@ impl<const ROOM: usize> Word<ROOM> {
         }
     }
 
-    // The i-th word, the program's name at 0; empty where there is no such word, or no room for it. It is read where it
+    // The i-th word, the program's name at 0; empty where there is no such word, or no room for it. It is taken where it
     // stands: to hand out so much room by value would copy it.
-    pub fn read(&mut self, rt: HostRuntime, i: usize)
+    pub fn take(&mut self, rt: HostRuntime, i: usize)
         ensures { length self.new ≤ ROOM }
     {
         self.length = arg(rt, i, &mut self.bytes);
